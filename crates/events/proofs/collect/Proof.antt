@@ -1,0 +1,25 @@
+use Rattle.events.specs.Events.{collected}
+use borrow.Author.Needs.{needs}
+use Rattle.events.proofs.collect.Statement.{statement}
+use Rattle.events.proofs.collect.Tie as tie
+
+side-at-requires : tie.Need-side-at-requires
+side-at-requires c κs = search needs
+
+drop-packet-requires : tie.Need-drop-packet-requires
+drop-packet-requires c κs = search needs
+
+with-side-requires : tie.Need-with-side-requires
+with-side-requires c κs = search needs
+
+interrupt-requires : tie.Need-interrupt-requires
+interrupt-requires c κs = search needs
+
+returns : tie.Need-returns
+unfolding collected
+returns c = cc
+
+pub collect-spec : {M : Type 1} → statement M
+collect-spec =
+    tie.close
+    (tie.spec side-at-requires drop-packet-requires with-side-requires interrupt-requires returns)

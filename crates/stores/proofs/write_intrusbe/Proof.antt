@@ -1,0 +1,17 @@
+use Rattle.stores.specs.Stores.{writeIntrusbe}
+use borrow.Author.Needs.{needs}
+use Rattle.stores.proofs.write_intrusbe.Statement.{statement}
+use Rattle.stores.proofs.write_intrusbe.Tie as tie
+
+note-requires : tie.Need-note-requires
+note-requires c κs = search needs
+
+same-length : tie.Need-same-length
+same-length c = search needs
+
+returns : tie.Need-returns
+unfolding writeIntrusbe
+returns c = c .before .before .note .ensures
+
+pub write-intrusbe-spec : {M : Type 1} → statement M
+write-intrusbe-spec = tie.close (tie.spec note-requires same-length returns)

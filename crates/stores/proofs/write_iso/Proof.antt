@@ -1,0 +1,34 @@
+use Rattle.stores.specs.Stores.{writeIso}
+use borrow.Author.Needs.{needs}
+use Rattle.stores.proofs.write_iso.Statement.{statement}
+use Rattle.stores.proofs.write_iso.Tie as tie
+
+side-at-requires : tie.Need-side-at-requires
+side-at-requires c κs = search needs
+
+with-side-requires : tie.Need-with-side-requires
+with-side-requires c κs = search needs
+
+csrh-of-requires : tie.Need-csrh-of-requires
+csrh-of-requires c κs = search needs
+
+note-requires : tie.Need-note-requires
+note-requires c κs = search needs
+
+same-length : tie.Need-same-length
+same-length c = search needs
+
+returns : tie.Need-returns
+unfolding writeIso
+returns c = (cc, cc)
+
+pub write-iso-spec : {M : Type 1} → statement M
+write-iso-spec =
+    tie.close
+    (tie.spec
+    side-at-requires
+    with-side-requires
+    csrh-of-requires
+    note-requires
+    same-length
+    returns)

@@ -1,0 +1,155 @@
+-- The stores: what each does to the registers and what it lists. A store goes from a Log to a Log.
+-- Assumes nothing.
+use Prim.Native.Nat.{ℕ, _+_, _*_}
+use mathlib.Core.Bool.{Bool, cond}
+use mathlib.Core.List.{List}
+use lib.Dec.{eqb}
+use lib.ListN.{set}
+use Rattle.laws.specs.Words.{raised}
+use Rattle.board.specs.declared.Direction.{Direction}
+use Rattle.board.specs.declared.Direction.the-variants.{Out, In}
+use Rattle.regs.specs.declared.Regs.{Regs}
+use Rattle.regs.specs.declared.control.Csr0l.{Csr0l}
+use Rattle.regs.specs.declared.control.Txcsrl.{Txcsrl}
+use Rattle.regs.specs.declared.control.Rxcsrl.{Rxcsrl}
+use Rattle.regs.specs.declared.control.Csr0lSet.{Csr0lSet}
+use Rattle.regs.specs.declared.control.TxcsrlSet.{TxcsrlSet}
+use Rattle.regs.specs.declared.control.RxcsrlSet.{RxcsrlSet}
+use Rattle.stores.specs.declared.Logged.{Logged}
+use Rattle.regs.specs.Registers.{withIndex, withFaddr, withPower, withEnable, withSide, sideAt, chosen, withChosen, withIso, withMaxp, withLen, enabledOf, enabled}
+use Rattle.regs.specs.Control.{csr0lNumber, txcsrlNumber, rxcsrlNumber, csr0lRead, txcsrlRead, rxcsrlRead, csr0lStored, csr0hFlushed, txStored, rxStored, csr0lSet, txcsrlSet, rxcsrlSet}
+
+-- the registers, the lent list, and how many stores stand in it
+pub record Log : Type 0 where
+  pub regs : Regs
+  pub list : List ℕ
+  pub count : ℕ
+
+abbrev pub log : Regs → List ℕ → ℕ → Log
+log r l n = record { regs = r; list = l; count = n }
+
+-- what a function that stores gives back, with its list
+abbrev pub logOf : Logged → List ℕ → Log
+logOf o l = record { regs = o .regs; list = l; count = o .n }
+
+-- document 01: "three a store: register, selected endpoint, value"; "entries past the count stay"
+unfoldable pub listed : List ℕ → ℕ → ℕ → ℕ → ℕ → List ℕ
+listed l n register endpoint value = set (set (set l (n * 3) register) (n * 3 + 1) endpoint) (n * 3 + 2) value
+
+-- a store to a register that leaves the registers r: one more in the list. The selection is that of r, so that "an index store has the
+-- new number in both places".
+unfoldable pub noted : ℕ → ℕ → Regs → List ℕ → ℕ → Log
+noted register value r l n = record { regs = r; list = listed l n register (r .index) value; count = n + 1 }
+
+-- document 01's register numbers
+abbrev pub FADDR : ℕ
+FADDR = 1
+
+abbrev pub POWER : ℕ
+POWER = 2
+
+abbrev pub INDEX : ℕ
+INDEX = 3
+
+abbrev pub CSR0L : ℕ
+CSR0L = 4
+
+abbrev pub CSR0H : ℕ
+CSR0H = 5
+
+abbrev pub TXCSRL : ℕ
+TXCSRL = 6
+
+abbrev pub RXCSRL : ℕ
+RXCSRL = 7
+
+abbrev pub TXCSRH : ℕ
+TXCSRH = 8
+
+abbrev pub RXCSRH : ℕ
+RXCSRH = 9
+
+abbrev pub TXMAXP : ℕ
+TXMAXP = 10
+
+abbrev pub RXMAXP : ℕ
+RXMAXP = 11
+
+abbrev pub INTRTXE : ℕ
+INTRTXE = 12
+
+abbrev pub INTRRXE : ℕ
+INTRRXE = 13
+
+abbrev pub INTRUSBE : ℕ
+INTRUSBE = 14
+
+abbrev pub FIFO : ℕ
+FIFO = 15
+
+-- the registers that come in pairs, by direction
+abbrev pub csrh : Direction → ℕ
+csrh In = TXCSRH
+csrh Out = RXCSRH
+
+abbrev pub maxp : Direction → ℕ
+maxp In = TXMAXP
+maxp Out = RXMAXP
+
+abbrev pub intre : Direction → ℕ
+intre In = INTRTXE
+intre Out = INTRRXE
+
+unfoldable pub writeFaddr : ℕ → Log → Log
+writeFaddr a g = noted FADDR a (withFaddr (g .regs) a) (g .list) (g .count)
+
+-- "Power's value is 1, intrusbe's 7."
+unfoldable pub writePower : Log → Log
+writePower g = noted POWER 1 (withPower (g .regs) 1) (g .list) (g .count)
+
+unfoldable pub writeIndex : ℕ → Log → Log
+writeIndex e g = noted INDEX e (withIndex (g .regs) e) (g .list) (g .count)
+
+unfoldable pub writeCsr0l : Csr0l → Log → Log
+writeCsr0l w g = noted CSR0L (csr0lNumber w) (csr0lStored w (g .regs)) (g .list) (g .count)
+
+unfoldable pub writeTxcsrl : Txcsrl → Log → Log
+writeTxcsrl w g = noted TXCSRL (txcsrlNumber w) (withChosen (g .regs) In (txStored w (chosen (g .regs) In))) (g .list) (g .count)
+
+unfoldable pub writeRxcsrl : Rxcsrl → Log → Log
+writeRxcsrl w g = noted RXCSRL (rxcsrlNumber w) (withChosen (g .regs) Out (rxStored w (chosen (g .regs) Out))) (g .list) (g .count)
+
+-- "`modify` from what is read"
+unfoldable pub modifyCsr0l : Csr0lSet → Log → Log
+modifyCsr0l s g = writeCsr0l (csr0lSet s (csr0lRead (g .regs))) g
+
+unfoldable pub modifyTxcsrl : TxcsrlSet → Log → Log
+modifyTxcsrl s g = writeTxcsrl (txcsrlSet s (txcsrlRead (g .regs))) g
+
+unfoldable pub modifyRxcsrl : RxcsrlSet → Log → Log
+modifyRxcsrl s g = writeRxcsrl (rxcsrlSet s (rxcsrlRead (g .regs))) g
+
+-- the source's only store to CSR0H, `modify` with the flush bit: all of CSR0H reads 0
+unfoldable pub flushCsr0h : Log → Log
+flushCsr0h g = noted CSR0H 1 (csr0hFlushed (g .regs)) (g .list) (g .count)
+
+-- "ISO is bit 6 of TXCSRH and RXCSRH": the source's only store there, a `write` of that bit
+unfoldable pub writeIso : Direction → Log → Log
+writeIso d g = noted (csrh d) 64 (withChosen (g .regs) d (withIso (chosen (g .regs) d))) (g .list) (g .count)
+
+unfoldable pub writeMaxp : Direction → ℕ → Log → Log
+writeMaxp d size g = noted (maxp d) size (withChosen (g .regs) d (withMaxp size (chosen (g .regs) d))) (g .list) (g .count)
+
+unfoldable pub writeIntrusbe : Log → Log
+writeIntrusbe g = noted INTRUSBE 7 (withEnable (g .regs) (record { usb = 7; tx = g .regs .enable .tx; rx = g .regs .enable .rx })) (g .list) (g .count)
+
+-- intrtxe and intrrxe "hold what was written"
+unfoldable pub writeIntre : Direction → ℕ → Log → Log
+writeIntre d v g = noted (intre d) v (withEnable (g .regs) (enabled d v (g .regs .enable))) (g .list) (g .count)
+
+unfoldable pub modifyIntre : Direction → ℕ → Log → Log
+modifyIntre d e g = writeIntre d (raised (enabledOf d (g .regs .enable)) e) g
+
+-- "A packet written is one store whose value is its length; none if empty." It goes to the selected endpoint.
+unfoldable pub writePacket : ℕ → Log → Log
+writePacket n g = cond (eqb n 0) g (noted FIFO n (withChosen (g .regs) In (withLen n (chosen (g .regs) In))) (g .list) (g .count))
