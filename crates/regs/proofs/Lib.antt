@@ -1,1 +1,4 @@
+pub mod AsWritten
+pub mod Modified
 pub mod Sides
+pub mod Soundness

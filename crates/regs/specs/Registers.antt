@@ -1,9 +1,10 @@
 -- The register record: fresh, one side of an endpoint, and the record with one of its parts changed.
 -- Assumes nothing.
 use Prim.Native.Nat.{ℕ}
+use mathlib.Core.Path.{_≡_}
 use mathlib.Core.Bool.{Bool, true, false}
 use mathlib.Core.List.{List}
-use lib.ListN.{getD, set, replicate}
+use lib.ListN.{length, getD, set, replicate}
 use Rattle.board.specs.declared.Board.{Board}
 use Rattle.board.specs.declared.Direction.{Direction}
 use Rattle.board.specs.declared.Direction.the-variants.{Out, In}
@@ -54,6 +55,13 @@ withMaxp n s = record { ready = s .ready; missed = s .missed; stall = s .stall; 
 
 abbrev pub withLen : ℕ → Side → Side
 withLen n s = record { ready = s .ready; missed = s .missed; stall = s .stall; stalled = s .stalled; iso = s .iso; maxp = s .maxp; len = n }
+
+-- a side of direction d is changed by what concerns direction c, where the two are one
+abbrev pub towards : Direction → Direction → (Side → Side) → Side → Side
+towards Out Out f s = f s
+towards Out In f s = s
+towards In Out f s = s
+towards In In f s = f s
 
 -- an enable register of a direction
 abbrev pub enabledOf : Direction → Enable → ℕ
@@ -155,6 +163,10 @@ sideAt r e d = sideOf (getD (r .eps) e noEp) d
 
 unfoldable pub withSide : Regs → ℕ → Direction → Side → Regs
 withSide r e d s = withEps r (set (r .eps) e (putSide (getD (r .eps) e noEp) d s))
+
+-- every record of the code has six endpoints; of a list of endpoints a law has to say it
+abbrev pub Whole : Regs → Type 0
+Whole r = length (r .eps) ≡ 6
 
 -- the side that the selection names, which the registers TXCSRL, RXCSRL, TXMAXP, .. are about
 abbrev pub chosen : Regs → Direction → Side
