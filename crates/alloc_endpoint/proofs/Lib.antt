@@ -1,0 +1,5 @@
+pub mod Laws
+pub mod Answers
+pub mod Changes
+pub mod Once
+pub mod Cases

@@ -1,0 +1,5 @@
+pub mod Endpoints
+pub mod Allocate
+pub mod Numbers
+pub mod Replies
+pub mod Cases
