@@ -22,8 +22,8 @@ pub fn put_bytes(fifo: &mut [u8], area: Span, bytes: &[u8])
     requires { ⌜ (length (now bytes) ≤ area .size) × (area .start + area .size ≤ length (now fifo)) ⌝ }
     ensures { λ _. ⌜ now (fifo .exit) ≡ pasted (now (fifo .entry)) (area .start) (now (bytes .entry)) ⌝ }
 {
-    let start = area.start;
-    copy_in(&mut fifo[start..], bytes);
+    let at = area.start;
+    copy_in(&mut fifo[at..], bytes);
 }
 
 fn lesser(a: usize, b: usize) -> usize

@@ -50,10 +50,13 @@ raised-lt16 w e hw he = raised-lt 16 w e hw he
 pub raised-lt6 : (w e : ℕ) → w < 64 → e < 6 → raised w e < 64
 raised-lt6 w e hw he = raised-lt 6 w e hw he
 
--- the language's `w | (1u16 << i)`
+-- the language's `1u16 << i`, and `w | (1u16 << i)`
+pub shifted : (i : ℕ) → i < 16 → 1 * 2 ^ i % 2 ^ 16 ≡ 2 ^ i
+shifted i h = ap (λ (x : ℕ). x % 2 ^ 16) (one-mul (2 ^ i)) ∙ mod-eq-of-lt (pow-lt h)
+
 pub or-raised : (w i : ℕ) → i < 16 → bitOr w (1 * 2 ^ i % 2 ^ 16) ≡ raised w i
 unfolding raised
-or-raised w i h = ap (bitOr w) (ap (λ (x : ℕ). x % 2 ^ 16) (one-mul (2 ^ i)) ∙ mod-eq-of-lt (pow-lt h))
+or-raised w i h = ap (bitOr w) (shifted i h)
 
 -- a word without a bit
 clearBit : ℕ → ℕ → ℕ → Bool

@@ -1,5 +1,5 @@
 -- The sides of the endpoints: what is read after one was changed, and what stays. Assumes nothing.
-use Prim.Native.Nat.{ℕ, _<_, _≤_}
+use Prim.Native.Nat.{ℕ, zero, suc, _<_, _≤_}
 use mathlib.Core.Path.{_≡_, refl, ap, _∙_}
 use mathlib.Core.Logic.{_⊎_, inl, inr}
 use mathlib.Core.Bool.{cond}
@@ -9,14 +9,15 @@ use native.Mathlib.Decide.{ℕ-discrete, decLe}
 use native.Mathlib.Nat.{lt-of-not-le}
 use native.Mathlib.Omega.{arith}
 use mathlib.Core.List.{List}
-use lib.ListN.{length, getD, length-set, List·getD-eq-default}
+use lib.ListN.{length, getD, length-set, List·getD-eq-default, replicate}
 use lib.Seq.{set-out, getD-set-same, getD-set-other}
+use Rattle.board.specs.declared.Board.{Board}
 use Rattle.board.specs.declared.Direction.{Direction}
 use Rattle.board.specs.declared.Direction.the-variants.{Out, In}
 use Rattle.regs.specs.declared.Side.{Side}
 use Rattle.regs.specs.declared.Ep.{Ep}
 use Rattle.regs.specs.declared.Regs.{Regs}
-use Rattle.regs.specs.Registers.{noSide, noEp, sideOf, putSide, towards, withEps, sideAt, withSide}
+use Rattle.regs.specs.Registers.{noSide, noEp, noPending, freshRegs, Whole, sideOf, putSide, towards, withEps, sideAt, withSide}
 
 -- past the last endpoint nothing is there
 none-there : (d : Direction) → sideOf noEp d ≡ noSide
@@ -124,3 +125,18 @@ side-seen r i c f e d h = go (ℕ-discrete e i)
     go : Dec (e ≡ i) → sideAt (withSide r i c (f (sideAt r i c))) e d ≡ cond (eqb e i) (towards c d f (sideAt r e d)) (sideAt r e d)
     go (yes p) = rw (eq-eqb e i p) (rw p (here c d))
     go (no n) = rw (ne-eqb e i n) (side-other r i c _ e d n)
+
+-- a fresh record: nothing at any side, endpoint 0 selected, address 0
+pub fresh-side : (b : Board) (e : ℕ) (d : Direction) → sideAt (freshRegs b) e d ≡ noSide
+unfolding freshRegs sideAt
+fresh-side b e d = ap (λ (x : Ep). sideOf x d) (nothing e 6) ∙ none-there d
+  where
+    nothing : (e n : ℕ) → getD (replicate n noEp) e noEp ≡ noEp
+    nothing e zero = refl
+    nothing zero (suc n) = refl
+    nothing (suc e) (suc n) = nothing e n
+
+pub fresh-rest : (b : Board)
+    → (freshRegs b .board ≡ b) × (freshRegs b .index ≡ 0) × (freshRegs b .faddr ≡ 0) × (freshRegs b .pending ≡ noPending) × Whole (freshRegs b)
+unfolding freshRegs
+fresh-rest b = (refl, refl, refl, refl, refl)

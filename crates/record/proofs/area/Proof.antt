@@ -1,0 +1,16 @@
+use native.Mathlib.Omega.{arith}
+use Rattle.board.specs.Boards.{total-fits}
+use Rattle.record.specs.Record.{areaOf, needOf}
+use borrow.Author.Needs.{needs}
+use Rattle.record.proofs.area.Statement.{statement}
+use Rattle.record.proofs.area.Tie as tie
+
+area-requires : tie.Need-area-requires
+area-requires c κs = search needs
+
+returns : tie.Need-returns
+unfolding areaOf needOf
+returns c = (c .area .ensures .0, c .area .ensures .1, omega (arith, total-fits (c .before .before .args .k .regs .board), c .area .ensures .1))
+
+pub area-spec : {M : Type 1} → statement M
+area-spec = tie.close (tie.spec area-requires returns)

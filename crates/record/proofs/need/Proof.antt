@@ -1,0 +1,14 @@
+use Rattle.record.specs.Record.{needOf}
+use borrow.Author.Needs.{needs}
+use Rattle.record.proofs.need.Statement.{statement}
+use Rattle.record.proofs.need.Tie as tie
+
+need-requires : tie.Need-need-requires
+need-requires c κs = search needs
+
+returns : tie.Need-returns
+unfolding needOf
+returns c = c .need .ensures
+
+pub need-spec : {M : Type 1} → statement M
+need-spec = tie.close (tie.spec need-requires returns)

@@ -1,0 +1,105 @@
+-- The whole record: fresh, where an endpoint's area lies, and reply 16 in one definition.
+-- Assumes nothing.
+use Prim.Native.Nat.{ℕ, _^_, _<_}
+use mathlib.Core.Bool.{Bool, true, false}
+use mathlib.Core.List.{List, [], _∷_}
+use lib.Dec.{ltb}
+use lib.ListN.{length, replicate}
+use Rattle.laws.specs.Tests.{_also_}
+use Rattle.board.specs.declared.Board.{Board}
+use Rattle.board.specs.declared.Direction.{Direction}
+use Rattle.board.specs.declared.Direction.the-variants.{Out, In}
+use Rattle.board.specs.declared.Span.{Span}
+use Rattle.board.specs.Table.{areaAt, total}
+use Rattle.board.specs.Boards.{rows}
+use Rattle.regs.specs.Registers.{freshRegs}
+use Rattle.regs.specs.Sound.{regsSound, Sound}
+use Rattle.alloc_endpoint.specs.Endpoints.{fresh}
+use Rattle.control_state.specs.Control.{idle}
+use Rattle.regs.specs.declared.Regs.{Regs}
+use Rattle.alloc_endpoint.specs.declared.EndpointData.{EndpointData}
+use Rattle.control_state.specs.declared.ControlState.{ControlState}
+use Rattle.record.specs.declared.Flags.{Flags}
+use Rattle.record.specs.declared.Refusal.{Refusal}
+use Rattle.record.specs.declared.Refusal.the-variants.{WouldBlock, Unsupported, NoSuchEndpoint, TooLong, NotWritable, NotReadable, NotSetup, BadAddress, TooLittleLent, BadRecord, OutOfTurn}
+use Rattle.record.specs.declared.Entry.{Entry}
+use Rattle.record.specs.declared.Entry.the-variants.{Clear, Refused}
+use Rattle.record.specs.declared.Record.{Record}
+
+-- "A fresh record: registers 0, nothing waiting, endpoints unused, Bulk, sizes 0, Idle, nothing remaining, flags down."
+abbrev pub noFlags : Flags
+noFlags = record { reset = false; suspend = false; resume = false; ep0 = false; «ep_tx» = 0; «ep_rx» = 0 }
+
+unfoldable pub freshRecord : Board → Record
+freshRecord b = record { regs = freshRegs b; endpoints = replicate 6 fresh; «control_state» = idle; irq = noFlags }
+
+-- where an endpoint's area lies in the FIFO buffer, and how long that must be: of the board's table
+unfoldable pub areaOf : Record → ℕ → Direction → Span
+areaOf k e d = areaAt (rows (k .regs .board)) e d
+
+unfoldable pub needOf : Record → ℕ
+needOf k = total (rows (k .regs .board))
+
+-- the sizes of the areas, in their order
+unfoldable pub sizesOf : Record → List ℕ
+sizesOf k =
+    areaOf k 0 In .size ∷ areaOf k 0 Out .size
+    ∷ areaOf k 1 In .size ∷ areaOf k 1 Out .size
+    ∷ areaOf k 2 In .size ∷ areaOf k 2 Out .size
+    ∷ areaOf k 3 In .size ∷ areaOf k 3 Out .size
+    ∷ areaOf k 4 In .size ∷ areaOf k 4 Out .size
+    ∷ areaOf k 5 In .size ∷ areaOf k 5 Out .size
+    ∷ []
+
+-- "flag above bit 5": the board's own last endpoint is the highest
+unfoldable pub flagsSound : Board → Flags → Bool
+flagsSound b f = ltb (f .«ep_tx») (2 ^ length (rows b)) also ltb (f .«ep_rx») (2 ^ length (rows b))
+
+-- reply 16 is given exactly when a record does not pass: "record with waiting length over its area or non-zero with its ready bit clear,
+-- flag above bit 5, selection over 5, address over 127"
+unfoldable pub recordSound : Record → Bool
+recordSound k = regsSound (sizesOf k) (k .regs) also flagsSound (k .regs .board) (k .irq)
+
+-- what reply 16's test says: proofs/Passing.antt shows that a record passes exactly when it is sound
+pub record SoundRecord (k : Record) : Type 0 where
+  pub regs : Sound (sizesOf k) (k .regs)
+  pub tx : k .irq .«ep_tx» < 2 ^ length (rows (k .regs .board))
+  pub rx : k .irq .«ep_rx» < 2 ^ length (rows (k .regs .board))
+
+-- how many endpoints the record's board has
+unfoldable pub endpointsOf : Record → ℕ
+endpointsOf k = length (rows (k .regs .board))
+
+-- document 01's reply numbers
+abbrev pub refusalNumber : Refusal → ℕ
+refusalNumber WouldBlock = 6
+refusalNumber Unsupported = 7
+refusalNumber NoSuchEndpoint = 8
+refusalNumber TooLong = 9
+refusalNumber NotWritable = 11
+refusalNumber NotReadable = 12
+refusalNumber NotSetup = 13
+refusalNumber BadAddress = 14
+refusalNumber TooLittleLent = 15
+refusalNumber BadRecord = 16
+refusalNumber OutOfTurn = 17
+
+-- "Order: 15, 16, 8": lent too little, the record does not pass, endpoint beyond the last
+abbrev pub entryBy : Bool → Bool → Bool → Entry
+entryBy true passes beyond = Refused TooLittleLent
+entryBy false false beyond = Refused BadRecord
+entryBy false true true = Refused NoSuchEndpoint
+entryBy false true false = Clear
+
+-- the record with one part changed
+abbrev pub withRegs : Record → Regs → Record
+withRegs k r = record { regs = r; endpoints = k .endpoints; «control_state» = k .«control_state»; irq = k .irq }
+
+abbrev pub withEndpoints : Record → List EndpointData → Record
+withEndpoints k es = record { regs = k .regs; endpoints = es; «control_state» = k .«control_state»; irq = k .irq }
+
+abbrev pub withControl : Record → ControlState → Record
+withControl k c = record { regs = k .regs; endpoints = k .endpoints; «control_state» = c; irq = k .irq }
+
+abbrev pub withIrq : Record → Flags → Record
+withIrq k f = record { regs = k .regs; endpoints = k .endpoints; «control_state» = k .«control_state»; irq = f }
