@@ -8,7 +8,9 @@ use Rattle.regs.specs.declared.Side.{Side}
 use Rattle.regs.specs.declared.Regs.{Regs}
 use Rattle.regs.specs.declared.control.Csr0lSet.{Csr0lSet}
 use Rattle.regs.specs.declared.control.Csr0lSet.the-variants as csr0l
+use Rattle.regs.specs.declared.control.TxcsrlSet.{TxcsrlSet}
 use Rattle.regs.specs.declared.control.TxcsrlSet.the-variants as txcsrl
+use Rattle.regs.specs.declared.control.RxcsrlSet.{RxcsrlSet}
 use Rattle.regs.specs.declared.control.RxcsrlSet.the-variants as rxcsrl
 use Rattle.regs.specs.Registers.{sideAt}
 use Rattle.regs.specs.Control.{unless, dropped, csr0lRead, csr0lSet, zeroTxStored, txcsrlOf, txcsrlSet, txStored, rxcsrlOf, rxcsrlSet, rxStored}
@@ -66,3 +68,16 @@ zero-kept r csr0l.DataEnd n = rw (or-self (sideAt r 0 In .ready), and-self (side
 zero-kept r csr0l.ServicedRxPktRdy n = rw (or-self (sideAt r 0 In .ready), and-self (sideAt r 0 In .stalled))
 zero-kept r csr0l.ServicedSetupEnd n = rw (or-self (sideAt r 0 In .ready), and-self (sideAt r 0 In .stalled))
 zero-kept r csr0l.ServicedBoth n = rw (or-self (sideAt r 0 In .ready), and-self (sideAt r 0 In .stalled))
+
+-- a `modify` writes the SendStall that it read
+pub txcsrl-stall : (s : TxcsrlSet) (x : Side) → txcsrlSet s (txcsrlOf x) .«send_stall» ≡ x .stall
+unfolding txcsrlSet txcsrlOf
+txcsrl-stall txcsrl.TxPktRdy x = refl
+txcsrl-stall txcsrl.FlushFifo x = refl
+txcsrl-stall txcsrl.NoUnderRun x = refl
+
+pub rxcsrl-stall : (s : RxcsrlSet) (x : Side) → rxcsrlSet s (rxcsrlOf x) .«send_stall» ≡ x .stall
+unfolding rxcsrlSet rxcsrlOf
+rxcsrl-stall rxcsrl.NoRxPktRdy x = refl
+rxcsrl-stall rxcsrl.FlushFifo x = refl
+rxcsrl-stall rxcsrl.NoOverRun x = refl

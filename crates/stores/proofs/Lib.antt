@@ -1,1 +1,2 @@
+pub mod Halts
 pub mod Promises

@@ -1,0 +1,85 @@
+-- SendStall of endpoints 1 to 5: only a store to TXCSRL or RXCSRL with another SendStall bit changes it, and no `modify` of the source does.
+-- Assumes nothing.
+use Prim.Native.Nat.{ℕ, _<_}
+use mathlib.Core.Path.{_≡_, refl, ap, _∙_}
+use mathlib.Core.Bool.{Bool, true, false, cond}
+use native.Mathlib.Decide.{ℕ-discrete}
+use borrow.Author.Tests.{eq-eqb, ne-eqb}
+use lib.Dec.{eqb}
+use Rattle.board.specs.declared.Direction.{Direction}
+use Rattle.board.specs.declared.Direction.the-variants.{Out, In}
+use Rattle.regs.specs.declared.Side.{Side}
+use Rattle.regs.specs.declared.Regs.{Regs}
+use Rattle.regs.specs.declared.control.TxcsrlSet.{TxcsrlSet}
+use Rattle.regs.specs.declared.control.RxcsrlSet.{RxcsrlSet}
+use Rattle.regs.specs.Registers.{Whole, sideAt, chosen, towards, withIso, withMaxp, withLen}
+use Rattle.regs.specs.Control.{txStored, rxStored, txcsrlRead, txcsrlSet, rxcsrlRead, rxcsrlSet}
+use Rattle.regs.proofs.Modified.{txcsrl-stall, rxcsrl-stall}
+use Rattle.regs.proofs.AsWritten.{tx-stall, rx-stall}
+use Rattle.stores.specs.Stores.{Log}
+use Rattle.stores.specs.Promise.{Store, faddr, power, index, csr0l, csr0h, txcsrl, rxcsrl, iso, maxp, intrusbe, intre, packet, does, leaves}
+use Rattle.stores.proofs.Promises.{sides}
+
+-- the same halts at 1 to 5
+abbrev pub SameHalts : Regs → Regs → Type 0
+SameHalts r q = (e : ℕ) (d : Direction) → (e ≡ 0 → ⊥) → sideAt q e d .stall ≡ sideAt r e d .stall
+
+-- the written SendStall bit is the one that stands there
+abbrev pub SameStall : Store → Regs → Type 0
+SameStall (txcsrl w) r = w .«send_stall» ≡ chosen r In .stall
+SameStall (rxcsrl w) r = w .«send_stall» ≡ chosen r Out .stall
+SameStall (faddr a) r = Unit
+SameStall power r = Unit
+SameStall (index e) r = Unit
+SameStall (csr0l w) r = Unit
+SameStall csr0h r = Unit
+SameStall (iso d) r = Unit
+SameStall (maxp d n) r = Unit
+SameStall intrusbe r = Unit
+SameStall (intre d v) r = Unit
+SameStall (packet n) r = Unit
+
+-- a change of the selected side that keeps SendStall keeps it at every side
+kept : (c : Direction) (f : Side → Side) (r : Regs) (e : ℕ) (d : Direction) → (f (chosen r c) .stall ≡ chosen r c .stall)
+    → cond (eqb e (r .index)) (towards c d f (sideAt r e d)) (sideAt r e d) .stall ≡ sideAt r e d .stall
+kept c f r e d same = go c d same (ℕ-discrete e (r .index))
+  where
+    go : (c d : Direction) → (f (chosen r c) .stall ≡ chosen r c .stall) → Dec (e ≡ r .index)
+        → cond (eqb e (r .index)) (towards c d f (sideAt r e d)) (sideAt r e d) .stall ≡ sideAt r e d .stall
+    go c d s (no n) = rw (ne-eqb e (r .index) n)
+    go Out Out s (yes p) = rw (eq-eqb e (r .index) p) (rw p s)
+    go Out In s (yes p) = rw (eq-eqb e (r .index) p)
+    go In Out s (yes p) = rw (eq-eqb e (r .index) p)
+    go In In s (yes p) = rw (eq-eqb e (r .index) p) (rw p s)
+
+leaves-stall : (o : Store) (r : Regs) (e : ℕ) (d : Direction) → (e ≡ 0 → ⊥) → SameStall o r
+    → leaves o (r .index) e d (sideAt r e d) .stall ≡ sideAt r e d .stall
+leaves-stall (faddr a) r e d n s = refl
+leaves-stall power r e d n s = refl
+leaves-stall (index f) r e d n s = refl
+leaves-stall (csr0l w) r e Out n s = rw (ne-eqb e 0 n)
+leaves-stall (csr0l w) r e In n s = rw (ne-eqb e 0 n)
+leaves-stall csr0h r e d n s = rw (ne-eqb e 0 n)
+leaves-stall (txcsrl w) r e d n s = kept In (txStored w) r e d (tx-stall w _ ∙ s)
+leaves-stall (rxcsrl w) r e d n s = kept Out (rxStored w) r e d (rx-stall w _ ∙ s)
+leaves-stall (iso c) r e d n s = kept c withIso r e d refl
+leaves-stall (maxp c m) r e d n s = kept c (withMaxp m) r e d refl
+leaves-stall intrusbe r e d n s = refl
+leaves-stall (intre c v) r e d n s = refl
+leaves-stall (packet m) r e d n s = go (eqb m 0)
+  where
+    go : (b : Bool)
+        → cond b (sideAt r e d) (cond (eqb e (r .index)) (towards In d (withLen m) (sideAt r e d)) (sideAt r e d)) .stall ≡ sideAt r e d .stall
+    go true = refl
+    go false = kept In (withLen m) r e d refl
+
+-- a store that does not write another SendStall keeps every halt of 1 to 5
+pub halts : (o : Store) (g : Log) → Whole (g .regs) → g .regs .index < 6 → SameStall o (g .regs) → SameHalts (g .regs) (does o g .regs)
+halts o g six h s e d n = ap (λ (x : Side). x .stall) (sides o g e d six h) ∙ leaves-stall o (g .regs) e d n s
+
+-- and no `modify` writes another: it writes what it read
+pub tx-modified : (s : TxcsrlSet) (r : Regs) → SameStall (txcsrl (txcsrlSet s (txcsrlRead r))) r
+tx-modified s r = txcsrl-stall s (chosen r In)
+
+pub rx-modified : (s : RxcsrlSet) (r : Regs) → SameStall (rxcsrl (rxcsrlSet s (rxcsrlRead r))) r
+rx-modified s r = rxcsrl-stall s (chosen r Out)
