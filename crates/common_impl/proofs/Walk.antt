@@ -10,13 +10,13 @@ use Rattle.stores.specs.Stores.{Log}
 use Rattle.common_impl.specs.Common.{repaired, numbers, repairedBelow}
 
 -- the first of the numbers that are left, and the rest
-numbers-next : (i b : ℕ) → i < b → numbers i (b - i) ≡ i ∷ numbers (i + 1) (b - (i + 1))
+pub numbers-next : (i b : ℕ) → i < b → numbers i (b - i) ≡ i ∷ numbers (i + 1) (b - (i + 1))
 unfolding numbers
 numbers-next i b h =
     let e : b - i ≡ suc (b - (i + 1)) = omega arith in
     rw (e, add-one)
 
-numbers-none : (i b : ℕ) → b ≤ i → numbers i (b - i) ≡ []
+pub numbers-none : (i b : ℕ) → b ≤ i → numbers i (b - i) ≡ []
 unfolding numbers
 numbers-none i b h =
     let e : b - i ≡ 0 = omega arith in

@@ -1,0 +1,13 @@
+pub mod Tests
+pub mod Counts
+pub mod Events
+pub mod Lawful
+pub mod Waiting
+pub mod False
+pub mod Sent
+pub mod Third
+pub mod Sentences
+pub mod Walk
+pub mod Honest
+pub mod Shams
+pub mod Examples

@@ -1,0 +1,95 @@
+-- Demand 3's four sentences over any machine, and that they are not empty.
+-- Assumes nothing.
+use mathlib.Core.Path.{_≡_}
+use mathlib.Core.Bool.{Bool, true, not}
+use mathlib.Core.List.{List, _∷_}
+use Prim.Native.Nat.{ℕ, _≤_}
+use lib.Dec.{T}
+use Rattle.rounds.specs.Machine.{Event, Machine, isRound, isAnsweredPoll, isInterrupt, takesSuspend, readsSent, names, namesSent, arrivesAt, run, after, some, Stays, falseNamings, arrivalsAbove, endsInRound}
+
+module _ (M : Machine) where
+  abbrev History : Type 0
+  History = List (M .Op)
+
+  -- "For endpoints 1 to 5, over any history from a fresh record": the highest endpoint is the machine's own.
+  pub record Endpoint (e : ℕ) : Type 0 where
+    pub low : 1 ≤ e
+    pub high : e ≤ M .top
+
+  -- 1. "a packet still waiting, whose receive interrupt was taken after it arrived, is named for reading in every round from then on"
+
+  -- After h a packet arrived by a, an interrupt was taken somewhere in k, the packet is still waiting, and then p is a round.
+  pub record StillWaits (e : ℕ) (h : History) (a : M .Op) (k : History) (p : M .Op) : Type 0 where
+    pub arrived : T (arrivesAt e (M .event (after M h) a))
+    pub still : Stays M e (M .step (after M h) a) k
+    pub taken : T (some M isInterrupt (M .step (after M h) a) k)
+    pub polled : T (isRound (M .event (run M (after M h) (a ∷ k)) p))
+
+  abbrev pub Named : Type 0
+  Named =
+      (e : ℕ) → Endpoint e → (h : History) (a : M .Op) (k : History) (p : M .Op)
+      → StillWaits e h a k p → T (names e (M .event (run M (after M h) (a ∷ k)) p))
+
+  -- Beside it: while a packet waits no other arrives there, so what waits at p is the packet that a brought.
+  abbrev pub SamePacket : Type 0
+  SamePacket = (e : ℕ) (h k : History) → Stays M e (after M h) k → T (not (some M (arrivesAt e) (after M h) k))
+
+  -- 2. "For each endpoint, rounds that name it for reading with nothing waiting number at most the packets that arrived at higher
+  -- endpoints." Endpoint 0 too.
+  abbrev pub FewFalse : Type 0
+  FewFalse = (e : ℕ) → e ≤ M .top → (h : History) → falseNamings M e (M .fresh) h ≤ arrivalsAbove M e (M .fresh) h
+
+  -- 3. "A round names one of 1 to 5 as sent exactly when an interrupt taken since the round before, or the start, read its transmit
+  -- bit as set."
+
+  -- h is empty or ends in a round, k has no round, and then p is a round.
+  pub record NextRound (h k : History) (p : M .Op) : Type 0 where
+    pub since : T (endsInRound M true (M .fresh) h)
+    pub between : T (not (some M isRound (after M h) k))
+    pub polled : T (isRound (M .event (run M (after M h) k) p))
+
+  abbrev pub SentExactly : Type 0
+  SentExactly =
+      (e : ℕ) → Endpoint e → (h k : History) (p : M .Op)
+      → NextRound h k p → namesSent e (M .event (run M (after M h) k) p) ≡ some M (readsSent e) (after M h) k
+
+  -- 4. "While no suspend has been taken, of three answered polls with no interrupt taken between them the third is a round."
+
+  -- The polls are p after h, q after k more, and r after l more. No interrupt is taken in k and l, so that a suspend could be in h only.
+  pub record ThreePolls (h : History) (p : M .Op) (k : History) (q : M .Op) (l : History) (r : M .Op) : Type 0 where
+    pub awake : T (not (some M takesSuspend (M .fresh) h))
+    pub first : T (isAnsweredPoll (M .event (after M h) p))
+    pub between : T (not (some M isInterrupt (M .step (after M h) p) k))
+    pub second : T (isAnsweredPoll (M .event (run M (after M h) (p ∷ k)) q))
+    pub between′ : T (not (some M isInterrupt (M .step (run M (after M h) (p ∷ k)) q) l))
+    pub third : T (isAnsweredPoll (M .event (run M (run M (after M h) (p ∷ k)) (q ∷ l)) r))
+
+  abbrev pub ThirdIsRound : Type 0
+  ThirdIsRound =
+      (h : History) (p : M .Op) (k : History) (q : M .Op) (l : History) (r : M .Op)
+      → ThreePolls h p k q l r → T (isRound (M .event (run M (run M (after M h) (p ∷ k)) (q ∷ l)) r))
+
+  pub record Sentences : Type 0 where
+    pub named : Named
+    pub samePacket : SamePacket
+    pub fewFalse : FewFalse
+    pub sentExactly : SentExactly
+    pub thirdIsRound : ThirdIsRound
+
+-- That the sentences are not empty. Which operations are lent enough, and which states are good, is for each machine to say.
+pub record Calls (M : Machine) : Type 1 where
+  pub Good : M .State → Type 0  -- the record passes the test of reply 16
+  pub Poll : M .Op → Type 0  -- a poll that is lent enough
+  pub Interrupt : M .Op → Type 0  -- an interrupt
+  pub Arrival : M .State → ℕ → M .Op → Type 0  -- an arrival at an endpoint, of a packet that fits there, lent enough
+
+module _ (M : Machine) (C : Calls M) where
+  pub record NotEmpty : Type 0 where
+    -- every record of a history is good
+    pub good : (h : List (M .Op)) → C .Good (after M h)
+    -- a poll that is lent enough is answered
+    pub polled : (h : List (M .Op)) (o : M .Op) → C .Poll o → T (isAnsweredPoll (M .event (after M h) o))
+    -- every interrupt is answered
+    pub taken : (h : List (M .Op)) (o : M .Op) → C .Interrupt o → T (isInterrupt (M .event (after M h) o))
+    -- an arrival that fits, where none waits, lent enough, is answered
+    pub arrived : (h : List (M .Op)) (e : ℕ) (o : M .Op) → C .Arrival (after M h) e o → T (not (M .waiting (after M h) e)) → T (arrivesAt e (M .event (after M h) o))

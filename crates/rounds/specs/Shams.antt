@@ -1,0 +1,191 @@
+-- A small machine whose poll can be exchanged: an honest one, and the shams that demand 3 must shut out.
+-- Assumes nothing.
+use mathlib.Core.Path.{_≡_}
+use mathlib.Core.Bool.{Bool, true, false, not, cond, _&&_, _||_}
+use mathlib.Core.List.{List, [], _∷_}
+use Prim.Native.Nat.{ℕ, zero, suc, _≤_}
+use lib.Dec.{T, leb, eqb}
+use Rattle.rounds.specs.Machine.{Event, arrival, interrupt, round, pause, quiet, Machine}
+use Rattle.rounds.specs.Sentences.{Calls}
+
+-- one bit for each of the bus events
+pub record Bus : Type 0 where
+  pub reset : Bool
+  pub resume : Bool
+  pub suspend : Bool
+
+-- Words of bits are tests on the endpoint.
+pub record State : Type 0 where
+  pub ready : ℕ → Bool  -- RxPktRdy
+  pub due : ℕ → Bool  -- the interrupt registers: receive, transmit, bus
+  pub gone : ℕ → Bool
+  pub raised : Bus
+  pub flag : ℕ → Bool  -- the driver's flags: receive, transmit, bus
+  pub sent : ℕ → Bool
+  pub bus : Bus
+  pub first : List Event  -- the first poll's answer; one sham keeps it
+
+pub data Op : Type 0 where
+  arrive collect take : ℕ → Op  -- a packet arrives, is collected, is read
+  raise : Bus → Op
+  irq poll : Op
+
+-- What a poll gives: its answer, and the state after it.
+pub record Polled : Type 0 where
+  pub event : Event
+  pub state : State
+
+abbrev pub none : ℕ → Bool
+none j = false
+
+abbrev pub calm : Bus
+calm = record { reset = false; resume = false; suspend = false }
+
+abbrev pub bothBus : Bus → Bus → Bus
+bothBus a b = record { reset = a .reset || b .reset; resume = a .resume || b .resume; suspend = a .suspend || b .suspend }
+
+abbrev pub start : State
+start = record { ready = none; due = none; gone = none; raised = calm; flag = none; sent = none; bus = calm; first = [] }
+
+abbrev pub arrived : State → ℕ → State
+arrived s e =
+    record { ready = λ j. eqb j e || s .ready j; due = λ j. eqb j e || s .due j; gone = s .gone; raised = s .raised; flag = s .flag; sent = s .sent; bus = s .bus; first = s .first }
+
+abbrev pub collected : State → ℕ → State
+collected s e =
+    record { ready = s .ready; due = s .due; gone = λ j. eqb j e || s .gone j; raised = s .raised; flag = s .flag; sent = s .sent; bus = s .bus; first = s .first }
+
+abbrev pub emptied : State → ℕ → State
+emptied s e =
+    record { ready = λ j. s .ready j && not (eqb j e); due = s .due; gone = s .gone; raised = s .raised; flag = s .flag; sent = s .sent; bus = s .bus; first = s .first }
+
+abbrev pub busRaised : State → Bus → State
+busRaised s b =
+    record { ready = s .ready; due = s .due; gone = s .gone; raised = bothBus (s .raised) b; flag = s .flag; sent = s .sent; bus = s .bus; first = s .first }
+
+abbrev pub taken : State → State
+taken s =
+    record {
+      ready = s .ready;
+      due = none;
+      gone = none;
+      raised = calm;
+      flag = λ j. s .flag j || s .due j;
+      sent = λ j. s .sent j || s .gone j;
+      bus = bothBus (s .bus) (s .raised);
+      first = s .first;
+    }
+
+abbrev pub withFlags : State → (ℕ → Bool) → (ℕ → Bool) → State
+withFlags s flag sent =
+    record { ready = s .ready; due = s .due; gone = s .gone; raised = s .raised; flag = flag; sent = sent; bus = s .bus; first = s .first }
+
+abbrev pub withBus : State → Bus → State
+withBus s bus =
+    record { ready = s .ready; due = s .due; gone = s .gone; raised = s .raised; flag = s .flag; sent = s .sent; bus = bus; first = s .first }
+
+abbrev pub withFirst : State → List Event → State
+withFirst s first =
+    record { ready = s .ready; due = s .due; gone = s .gone; raised = s .raised; flag = s .flag; sent = s .sent; bus = s .bus; first = first }
+
+-- the order of a poll: Reset, Resume, Suspend (which puts down reset and never its own), then a round
+abbrev pub inOrder : Bool → Bool → Bool → State → Polled → Polled
+inOrder true resume suspend s r =
+    record { event = pause; state = withBus s (record { reset = false; resume = s .bus .resume; suspend = s .bus .suspend }) }
+inOrder false true suspend s r =
+    record { event = pause; state = withBus s (record { reset = s .bus .reset; resume = false; suspend = s .bus .suspend }) }
+inOrder false false true s r =
+    record { event = pause; state = withBus s (record { reset = false; resume = s .bus .resume; suspend = s .bus .suspend }) }
+inOrder false false false s r = r
+
+-- a poll that names `out` and `complete` in its rounds, and leaves the flags `flag` and `sent`
+abbrev pub polling : (out complete flag sent : State → ℕ → Bool) → State → Polled
+polling out complete flag sent s =
+    inOrder (s .bus .reset) (s .bus .resume) (s .bus .suspend) s
+    (record { event = round (out s) (complete s); state = withFlags s (flag s) (sent s) })
+
+-- a flag is up, and nothing waits
+abbrev pub drained : (ℕ → Bool) → (ℕ → Bool) → ℕ → Bool
+drained flag ready n = flag n && not (ready n)
+
+-- the flags without that of the highest drained endpoint below n
+abbrev pub without : (ℕ → Bool) → (ℕ → Bool) → ℕ → ℕ → Bool
+without flag ready zero j = flag j
+without flag ready (suc n) j = cond (drained flag ready n) (flag j && not (eqb j n)) (without flag ready n j)
+
+module _ (top : ℕ) where
+  -- an arrival is answered at an endpoint of the machine where none waits
+  abbrev pub accepts : State → ℕ → Bool
+  accepts s e = leb e top && not (s .ready e)
+
+  module _ (ask : State → Polled) where
+    abbrev pub step : State → Op → State
+    step s (arrive e) = cond (accepts s e) (arrived s e) s
+    step s (collect e) = collected s e
+    step s (take e) = emptied s e
+    step s (raise b) = busRaised s b
+    step s irq = taken s
+    step s poll = ask s .state
+
+    abbrev pub event : State → Op → Event
+    event s (arrive e) = cond (accepts s e) (arrival e) quiet
+    event s (collect e) = quiet
+    event s (take e) = quiet
+    event s (raise b) = quiet
+    event s irq = interrupt (s .gone) (s .raised .suspend)
+    event s poll = ask s .event
+
+    abbrev pub small : Machine
+    small =
+        record { top = top; State = State; Op = Op; fresh = start; step = step; event = event; waiting = λ s e. s .ready e }
+
+    abbrev pub calls : Calls small
+    calls = record { Good = λ s. T true; Poll = λ o. o ≡ poll; Interrupt = λ o. o ≡ irq; Arrival = λ s e o. (e ≤ top) × (o ≡ arrive e) }
+
+  -- the walk: "one round clears only the highest drained one"
+  abbrev pub walked : State → ℕ → Bool
+  walked s = without (s .flag) (s .ready) (suc top)
+
+  abbrev pub honest : State → Polled
+  honest = polling walked (λ s. s .sent) walked (λ s. none)
+
+  -- never clears a flag
+  abbrev pub neverClears : State → Polled
+  neverClears = polling (λ s. s .flag) (λ s. s .sent) (λ s. s .flag) (λ s. none)
+
+  -- clears the flag of a waiting endpoint
+  abbrev pub clearsWaiting : State → Polled
+  clearsWaiting = polling walked (λ s. s .sent) (λ s. none) (λ s. none)
+
+  -- keeps a transmit flag
+  abbrev pub keepsSent : State → Polled
+  keepsSent = polling walked (λ s. s .sent) walked (λ s. s .sent)
+
+  -- answers None under a flag that it should report: a receive flag, a transmit flag
+  abbrev pub hidesReceive : State → Polled
+  hidesReceive = polling (λ s. none) (λ s. s .sent) walked (λ s. none)
+
+  abbrev pub hidesSent : State → Polled
+  hidesSent = polling walked (λ s. none) walked (λ s. none)
+
+  -- works once, and then repeats its first answer
+  abbrev pub again : List Event → State → Polled
+  again [] s = let p = honest s in record { event = p .event; state = withFirst (p .state) (p .event ∷ []) }
+  again (v ∷ vs) s = record { event = v; state = s }
+
+  abbrev pub repeats : State → Polled
+  repeats s = again (s .first) s
+
+  abbrev pub alwaysNone : State → Polled
+  alwaysNone s = record { event = round none none; state = s }
+
+  abbrev pub alwaysReset : State → Polled
+  alwaysReset s = record { event = pause; state = s }
+
+  -- refuses every poll: all four sentences hold of it
+  abbrev pub refuses : State → Polled
+  refuses s = record { event = quiet; state = s }
+
+-- the small machine with the display's endpoints, polled by one of these
+abbrev pub display : ((top : ℕ) → State → Polled) → Machine
+display ask = small 5 (ask 5)

@@ -1,0 +1,15 @@
+-- `usb_device_interrupt::take_bus` meets its contract. Assumes nothing.
+use Rattle.usb_device_interrupt.specs.Interrupt.{busTaken}
+use borrow.Author.Needs.{needs}
+use Rattle.usb_device_interrupt.proofs.take_bus.Statement.{statement}
+use Rattle.usb_device_interrupt.proofs.take_bus.Tie as tie
+
+has-bit-requires : tie.Need-has-bit-requires
+has-bit-requires c κs = search needs
+
+returns : tie.Need-returns
+unfolding busTaken
+returns c = rw (c .before .has-bit .ensures)
+
+pub take-bus-spec : {M : Type 1} → statement M
+take-bus-spec = tie.close (tie.spec has-bit-requires returns)
