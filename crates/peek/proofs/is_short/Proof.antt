@@ -1,0 +1,15 @@
+-- `peek::is_short` meets its contract. Assumes nothing.
+use Rattle.peek.specs.Peek.{short}
+use borrow.Author.Needs.{needs}
+use Rattle.peek.proofs.is_short.Statement.{statement}
+use Rattle.peek.proofs.is_short.Tie as tie
+
+need-requires : tie.Need-need-requires
+need-requires c κs = search needs
+
+returns : tie.Need-returns
+unfolding short
+returns c = cc
+
+pub is-short-spec : {M : Type 1} → statement M
+is-short-spec = tie.close (tie.spec need-requires returns)

@@ -1,0 +1,56 @@
+// What `write` and `read` have to know before their first store, because a refused call stores nothing: whether enough is lent, and what the
+// registers of an endpoint read once it is selected, while nothing is selected and nothing listed.
+use record::Record;
+use regs::Regs;
+use regs::control;
+ghost use mathlib.Core.Path.{_≡_};
+ghost use Rattle.regs.specs.Registers.{withIndex};
+ghost use Rattle.peek.specs.Peek.{short, txPktRdy, rxPktRdy, rxCount};
+
+pub fn is_short(k: Record, fifo: usize, list: usize) -> bool
+    ensures { λ b. ⌜ b ≡ short k fifo list ⌝ }
+{
+    (fifo < record::need(k)) | (list < 384)
+}
+
+fn selected(r: Regs, e: u8) -> Regs
+    ensures { λ o. ⌜ o ≡ withIndex r e ⌝ }
+{
+    let mut o = r;
+    o.index = e;
+    o
+}
+
+pub fn tx_pkt_rdy(r: Regs, e: u8) -> bool
+    ensures { λ b. ⌜ b ≡ txPktRdy e (withIndex r e) ⌝ }
+{
+    let s = selected(r, e);
+    if e == 0 {
+        let w = control::read_csr0l(s);
+        return w.tx_pkt_rdy;
+    }
+    let w = control::read_txcsrl(s);
+    w.tx_pkt_rdy
+}
+
+pub fn rx_pkt_rdy(r: Regs, e: u8) -> bool
+    ensures { λ b. ⌜ b ≡ rxPktRdy e (withIndex r e) ⌝ }
+{
+    let s = selected(r, e);
+    if e == 0 {
+        let w = control::read_csr0l(s);
+        return w.rx_pkt_rdy;
+    }
+    let w = control::read_rxcsrl(s);
+    w.rx_pkt_rdy
+}
+
+pub fn rx_count(r: Regs, e: u8) -> u16
+    ensures { λ n. ⌜ n ≡ rxCount e (withIndex r e) ⌝ }
+{
+    let s = selected(r, e);
+    if e == 0 {
+        return control::read_count0(s);
+    }
+    control::read_rxcount(s)
+}

@@ -1,0 +1,18 @@
+-- `usb_device_write::nodata_phase` meets its contract. Assumes nothing.
+use Rattle.usb_device_write.specs.Write.{nodataPhase}
+use borrow.Author.Needs.{needs}
+use Rattle.usb_device_write.proofs.nodata_phase.Statement.{statement}
+use Rattle.usb_device_write.proofs.nodata_phase.Tie as tie
+
+set-state-requires : tie.Need-set-state-requires
+set-state-requires c κs = search needs
+
+raise-ep-tx-requires : tie.Need-raise-ep-tx-requires
+raise-ep-tx-requires c κs = search needs
+
+returns : tie.Need-returns
+unfolding nodataPhase
+returns c = cc
+
+pub nodata-phase-spec : {M : Type 1} → statement M
+nodata-phase-spec = tie.close (tie.spec set-state-requires raise-ep-tx-requires returns)

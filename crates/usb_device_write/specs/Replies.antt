@@ -1,0 +1,31 @@
+-- Document 01's table of replies, the rows of `write`: "Given exactly when".
+-- Assumes nothing.
+use Prim.Native.Nat.{ℕ}
+use mathlib.Core.Path.{_≡_}
+use mathlib.Core.Bool.{Bool, true, false}
+use lib.Dec.{leb}
+use Rattle.regs.specs.Registers.{withIndex}
+use Rattle.peek.specs.Peek.{short, txPktRdy}
+use Rattle.record.specs.declared.Record.{Record}
+use Rattle.record.specs.Record.{recordSound, endpointsOf}
+use Rattle.usb_device_write.specs.Write.{tooLong, notWritable}
+
+-- the three tests that come first, passed: enough is lent, the record passes, the endpoint is there
+pub record Admitted (k : Record) (ep fifo list : ℕ) : Type 0 where
+  pub lent : short k fifo list ≡ false
+  pub passes : recordSound k ≡ true
+  pub there : leb (endpointsOf k) ep ≡ false
+
+-- reply 6: "write: TxPktRdy set"
+abbrev pub unready : Record → ℕ → Bool
+unready k ep = txPktRdy ep (withIndex (k .regs) ep)
+
+-- a reply's row holds, and in the order 15, 16, 8, 6, 9, 11 none before it. No other number is a reply of write's.
+pub data Given (k : Record) (ep n fifo list : ℕ) : ℕ → Type 0 where
+  done : Admitted k ep fifo list → unready k ep ≡ false → tooLong k ep n ≡ false → notWritable k ep n ≡ false → Given k ep n fifo list 0
+  blocks : Admitted k ep fifo list → unready k ep ≡ true → Given k ep n fifo list 6
+  beyond : short k fifo list ≡ false → recordSound k ≡ true → leb (endpointsOf k) ep ≡ true → Given k ep n fifo list 8
+  long : Admitted k ep fifo list → unready k ep ≡ false → tooLong k ep n ≡ true → Given k ep n fifo list 9
+  untaken : Admitted k ep fifo list → unready k ep ≡ false → tooLong k ep n ≡ false → notWritable k ep n ≡ true → Given k ep n fifo list 11
+  little : short k fifo list ≡ true → Given k ep n fifo list 15
+  unsound : short k fifo list ≡ false → recordSound k ≡ false → Given k ep n fifo list 16
