@@ -1,2 +1,3 @@
 pub mod Halts
+pub mod Others
 pub mod Promises

@@ -2,7 +2,7 @@
 -- Assumes nothing.
 use Prim.Native.Nat.{ℕ}
 use mathlib.Core.Path.{_≡_}
-use mathlib.Core.Bool.{true, cond}
+use mathlib.Core.Bool.{Bool, true, cond}
 use lib.Dec.{eqb}
 use lib.ListN.{length}
 use Rattle.board.specs.declared.Direction.{Direction}
@@ -43,7 +43,7 @@ leaves resume e d s = s
 leaves setupend e d s = s
 leaves (miss f c) e d s = cond (eqb e f) (towards c d lapsed s) s
 
--- the interrupts that an event raises
+-- the interrupts that an event raises. "Enable registers hold back no interrupt": they are not asked.
 abbrev pub raises : Event → Pending → Pending
 raises (arrival f n) p = cond (eqb f 0) (raisedAt In 0 p) (raisedAt Out f p)
 raises (collection f) p = raisedAt In f p
@@ -59,6 +59,21 @@ pub record Kept (r q : Regs) : Type 0 where
   pub endpoints : length (q .eps) ≡ length (r .eps)
   pub selected : q .index ≡ r .index
   pub addressed : q .faddr ≡ r .faddr
+
+-- SetupEnd after an event; power and the enable registers stay
+abbrev pub ends : Event → Bool → Bool
+ends (arrival e n) b = b
+ends (collection e) b = b
+ends reset b = b
+ends suspend b = b
+ends resume b = b
+ends setupend b = true
+ends (miss e d) b = b
+
+pub record Others (o : Event) (r q : Regs) : Type 0 where
+  pub ended : q .setupend ≡ ends o (r .setupend)
+  pub powered : q .power ≡ r .power
+  pub enable : q .enable ≡ r .enable
 
 -- the endpoint of an event is one of the record's
 abbrev pub at : Event → ℕ

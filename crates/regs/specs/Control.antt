@@ -83,7 +83,8 @@ txcsrlRead r = txcsrlOf (chosen r In)
 abbrev pub rxcsrlRead : Regs → Rxcsrl
 rxcsrlRead r = rxcsrlOf (chosen r Out)
 
--- "Counts are the waiting packet's length, 0 if none": a length is 0 where no packet waits, or the record is refused (reply 16)
+-- "Counts are the waiting packet's length, 0 if none": a length is 0 where no packet waits, or the record is refused (reply 16); that is
+-- `count0-none` and `rxcount-none` of proofs/AsWritten.antt
 unfoldable pub count0 : Regs → ℕ
 count0 r = sideAt r 0 Out .len
 
@@ -138,7 +139,7 @@ zeroRxcsrl = rxcsrlBits false false false false false false false false
 
 -- a store to TXCSRL. "SendStall takes the written bit. SentStall, UnderRun, .. are cleared by a written 0; a written 1 changes
 -- nothing." "A written 1 sets TxPktRdy; a written 0 changes nothing." "Flush drops that side's packet and ready bit and wins over the
--- rest of the same store".
+-- rest of the same store": over TxPktRdy and the packet; the other bits of the store act by their own rules (docs/DECISIONS.md).
 unfoldable pub txStored : Txcsrl → Side → Side
 txStored w s = record {
   ready = not (w .«flush_fifo») && (s .ready || w .«tx_pkt_rdy»);
@@ -166,7 +167,8 @@ rxStored w s = record {
   len = unless (rxDrops w) (s .len);
 }
 
--- a store to CSR0L, on endpoint 0's transmit side: TxPktRdy, SendStall and SentStall by the same rules
+-- a store to CSR0L, on endpoint 0's transmit side: TxPktRdy, SendStall and SentStall by the same rules. CSR0L is endpoint 0's, whatever is
+-- selected; the source selects 0 first.
 unfoldable pub zeroTxStored : Csr0l → Side → Side
 zeroTxStored w s = record {
   ready = s .ready || w .«tx_pkt_rdy»;

@@ -20,6 +20,7 @@ pub struct Side {
     pub stall: bool,
     // SentStall
     pub stalled: bool,
+    // bit 6 of TXCSRH or RXCSRH, all else of which reads 0
     pub iso: bool,
     pub maxp: u16,
     // the waiting packet's length
@@ -31,7 +32,7 @@ pub struct Ep {
     pub rx: Side,
 }
 
-// The bus interrupt register.
+// The bus interrupt register: suspend is bit 0, resume bit 1, reset bit 2.
 pub struct Intrusb {
     pub suspend: bool,
     pub resume: bool,

@@ -150,6 +150,8 @@ writeIntre d v g = noted (intre d) v (withEnable (g .regs) (enabled d v (g .regs
 unfoldable pub modifyIntre : Direction → ℕ → Log → Log
 modifyIntre d e g = writeIntre d (raised (enabledOf d (g .regs .enable)) e) g
 
--- "A packet written is one store whose value is its length; none if empty." It goes to the selected endpoint.
+-- "A packet written is one store whose value is its length; none if empty." It goes to the selected endpoint. The ready bit is set by
+-- a store after it: between the two a length stands with its ready bit clear, which no record at a call's end has. Of an empty packet
+-- the length is 0 already, or the record is refused (reply 16).
 unfoldable pub writePacket : ℕ → Log → Log
 writePacket n g = cond (eqb n 0) g (noted FIFO n (withChosen (g .regs) In (withLen n (chosen (g .regs) In))) (g .list) (g .count))

@@ -1,0 +1,15 @@
+-- `usb_device_impl::admit` meets its contract. Assumes nothing.
+use Rattle.record.specs.Record.{recordSound}
+use Rattle.usb_device_impl.proofs.Laws.{room}
+use borrow.Author.Needs.{needs}
+use Rattle.usb_device_impl.proofs.admit.Statement.{statement}
+use Rattle.usb_device_impl.proofs.admit.Tie as tie
+
+admit-requires : tie.Need-admit-requires
+admit-requires c κs = search needs
+
+returns : tie.Need-returns
+returns c = (c .admit .ensures, room (c .before .args .numbers) (recordSound (c .before .args .k)) (c .before .args .beyond) (c .admit .ensures))
+
+pub admit-spec : {M : Type 1} → statement M
+admit-spec = tie.close (tie.spec admit-requires returns)

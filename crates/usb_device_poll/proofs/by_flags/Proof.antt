@@ -1,0 +1,46 @@
+-- `usb_device_poll::by_flags` meets its contract. Assumes nothing.
+use Rattle.usb_device_poll.proofs.Laws.{resets, resumes, suspends, goes-round}
+use borrow.Author.Needs.{needs}
+use Rattle.usb_device_poll.proofs.by_flags.Statement.{statement}
+use Rattle.usb_device_poll.proofs.by_flags.Tie as tie
+
+answer-requires : tie.Need-answer-requires
+answer-requires c κs = search needs
+
+returns : tie.Need-returns
+returns c = resets _ _ (c .before .if1 .taken) (c .answer .ensures)
+
+answer-requires-2 : tie.Need-answer-requires-2
+answer-requires-2 c κs = search needs
+
+returns-2 : tie.Need-returns-2
+returns-2 c = resumes _ _ (c .before .before .if1 .left) (c .before .if2 .taken) (c .answer2 .ensures)
+
+answer-requires-3 : tie.Need-answer-requires-3
+answer-requires-3 c κs = search needs
+
+returns-3 : tie.Need-returns-3
+returns-3 c = suspends _ _ (c .before .before .before .if1 .left) (c .before .before .if2 .left) (c .before .if3 .taken) (c .answer3 .ensures)
+
+round-requires : tie.Need-round-requires
+round-requires c κs = search needs
+
+same-length : tie.Need-same-length
+same-length c = search needs
+
+returns-4 : tie.Need-returns-4
+returns-4 c = goes-round _ _ (c .before .before .before .before .before .before .if1 .left) (c .before .before .before .before .before .if2 .left) (c .before .before .before .before .if3 .left) (c .before .before .round .ensures)
+
+pub by-flags-spec : {M : Type 1} → statement M
+by-flags-spec =
+    tie.close
+    (tie.spec
+    answer-requires
+    returns
+    answer-requires-2
+    returns-2
+    answer-requires-3
+    returns-3
+    round-requires
+    same-length
+    returns-4)

@@ -1,0 +1,22 @@
+-- `usb_device_poll::round` meets its contract. Assumes nothing.
+use mathlib.Core.Path.{ap, _∙_}
+use Rattle.usb_device_poll.specs.Poll.{acceptedOn, roundOut}
+use borrow.Author.Needs.{needs}
+use Rattle.usb_device_poll.proofs.round.Statement.{statement}
+use Rattle.usb_device_poll.proofs.round.Tie as tie
+
+endpoint-zero-requires : tie.Need-endpoint-zero-requires
+endpoint-zero-requires c κs = search needs
+
+accept-on-requires : tie.Need-accept-on-requires
+accept-on-requires c κs = search needs
+
+same-length : tie.Need-same-length
+same-length c = search needs
+
+returns : tie.Need-returns
+unfolding roundOut
+returns c = c .before .before .accept-on .ensures ∙ ap (acceptedOn _) (c .before .before .before .before .before .before .endpoint-zero .ensures .0)
+
+pub round-spec : {M : Type 1} → statement M
+round-spec = tie.close (tie.spec endpoint-zero-requires accept-on-requires same-length returns)

@@ -1,0 +1,19 @@
+-- `usb_device_poll::tell` meets its contract. Assumes nothing.
+use Rattle.usb_device_poll.specs.Round.{told}
+use borrow.Author.Needs.{needs}
+use Rattle.usb_device_poll.proofs.tell.Statement.{statement}
+use Rattle.usb_device_poll.proofs.tell.Tie as tie
+
+setup-mask-requires : tie.Need-setup-mask-requires
+setup-mask-requires c κs = search needs
+
+returns : tie.Need-returns
+unfolding told
+returns c = rw (c .if1 .taken, c .before .setup-mask .ensures)
+
+returns-2 : tie.Need-returns-2
+unfolding told
+returns-2 c = rw (c .if1 .left)
+
+pub tell-spec : {M : Type 1} → statement M
+tell-spec = tie.close (tie.spec setup-mask-requires returns returns-2)
