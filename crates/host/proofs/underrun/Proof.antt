@@ -1,0 +1,15 @@
+-- `host::underrun` meets its contract. Assumes nothing.
+use Rattle.host.specs.Host.{underrunCall}
+use borrow.Author.Needs.{needs}
+use Rattle.host.proofs.underrun.Statement.{statement}
+use Rattle.host.proofs.underrun.Tie as tie
+
+miss-requires : tie.Need-miss-requires
+miss-requires c κs = search needs
+
+returns : tie.Need-returns
+unfolding underrunCall
+returns c = c .miss .ensures
+
+pub underrun-spec : {M : Type 1} → statement M
+underrun-spec = tie.close (tie.spec miss-requires returns)
