@@ -182,16 +182,21 @@ module _ (k : Record) (g : Log) where
   unfolding pollLogged
   by-flags p q s e = e ∙ (λ i. pollBy (sym p i) (sym q i) (sym s i) k g)
 
-  pub resets : {p : Polled} → k .irq .reset ≡ true → p ≡ polled Reset k (g .regs) (g .count) (k .«control_state») (withReset (k .irq) false) → outcome p (g .list) ≡ pollLogged k g
-  resets e q = by-flags e refl refl (ap (λ (x : Polled). outcome x (g .list)) q)
+  answer-with : (a : PollResult) {p : Polled} {d f : Flags} → d ≡ f → p ≡ polled a k (g .regs) (g .count) (k .«control_state») d
+      → outcome p (g .list) ≡ outcome (polled a k (g .regs) (g .count) (k .«control_state») f) (g .list)
+  answer-with a down q = ap (λ (x : Polled). outcome x (g .list)) (q ∙ ap (polled a k (g .regs) (g .count) (k .«control_state»)) down)
+
+  pub resets : {p : Polled} {d : Flags} → d ≡ withReset (k .irq) false → k .irq .reset ≡ true → p ≡ polled Reset k (g .regs) (g .count) (k .«control_state») d
+      → outcome p (g .list) ≡ pollLogged k g
+  resets down e q = by-flags e refl refl (answer-with Reset down q)
 
   pub resumes : {p : Polled} → k .irq .reset ≡ false → k .irq .resume ≡ true → p ≡ polled Resume k (g .regs) (g .count) (k .«control_state») (withResume (k .irq) false)
       → outcome p (g .list) ≡ pollLogged k g
-  resumes e r q = by-flags e r refl (ap (λ (x : Polled). outcome x (g .list)) q)
+  resumes e r q = by-flags e r refl (answer-with Resume refl q)
 
-  pub suspends : {p : Polled} → k .irq .reset ≡ false → k .irq .resume ≡ false → k .irq .suspend ≡ true
-      → p ≡ polled Suspend k (g .regs) (g .count) (k .«control_state») (withReset (k .irq) false) → outcome p (g .list) ≡ pollLogged k g
-  suspends e r s q = by-flags e r s (ap (λ (x : Polled). outcome x (g .list)) q)
+  pub suspends : {p : Polled} {d : Flags} → d ≡ withReset (k .irq) false → k .irq .reset ≡ false → k .irq .resume ≡ false → k .irq .suspend ≡ true
+      → p ≡ polled Suspend k (g .regs) (g .count) (k .«control_state») d → outcome p (g .list) ≡ pollLogged k g
+  suspends down e r s q = by-flags e r s (answer-with Suspend down q)
 
   pub goes-round : {q : PollOutcome} → k .irq .reset ≡ false → k .irq .resume ≡ false → k .irq .suspend ≡ false → q ≡ roundOut k g → q ≡ pollLogged k g
   goes-round e r s q = by-flags e r s q

@@ -2,3 +2,4 @@ pub mod Laws
 pub mod Turns
 pub mod Answers
 pub mod Once
+pub mod Cases

@@ -9,13 +9,13 @@ use regs::Regs;
 use regs::control;
 use regs::control::Csr0lSet;
 ghost use mathlib.Core.Path.{_≡_};
-ghost use mathlib.Core.Bool.{true, cond};
+ghost use mathlib.Core.Bool.{true, false, cond};
 ghost use Prim.Native.Nat.{_+_, _*_, _≤_, _<_};
 ghost use lib.ListN.{length};
 ghost use Rattle.laws.specs.Words.{clear, Lowest};
 ghost use Rattle.stores.specs.Stores.{log};
 ghost use Rattle.record.specs.Record.{recordSound};
-ghost use Rattle.usb_device_poll.specs.Round.{roundOf, walkOf, sentBy, setupTaken, restarted, cutShort, receivedBy, zeroServed, endpointZero, putBack, acceptStep, readyAt, drained, visit, walked, told};
+ghost use Rattle.usb_device_poll.specs.Round.{withReset, roundOf, walkOf, sentBy, setupTaken, restarted, cutShort, receivedBy, zeroServed, endpointZero, putBack, acceptStep, readyAt, drained, visit, walked, told};
 ghost use Rattle.usb_device_poll.specs.Poll.{outcome, polled, walkedOn, acceptedOn, roundOut, pollLogged, pollServed, pollCall};
 
 // The masks of a Data answer, a bit for each endpoint.
@@ -410,24 +410,32 @@ fn round(k: Record, r: Regs, list: &mut [u16], n: usize) -> Polled
     accept_on(k, o, list)
 }
 
+fn reset_down(f: Flags) -> Flags
+    ensures { λ o. ⌜ o ≡ withReset f false ⌝ }
+{
+    let mut o = f;
+    o.reset = false;
+    o
+}
+
 // Reset, Resume, Suspend, and then a round. The Suspend step puts down the reset flag and not its own, as the source does.
 fn by_flags(k: Record, r: Regs, list: &mut [u16], n: usize) -> Polled
     requires { ⌜ (k .irq .«ep_rx» < 64) × (n * 3 + 24 ≤ length (now list)) ⌝ }
     ensures { λ p. ⌜ outcome p (now (list .exit)) ≡ pollLogged k (log r (now (list .entry)) n) ⌝ }
 {
-    let mut f = k.irq;
+    let f = k.irq;
     let c = k.control_state;
+    let down = reset_down(f);
     if f.reset {
-        f.reset = false;
-        return answer(PollResult::Reset, k, r, n, c, f);
+        return answer(PollResult::Reset, k, r, n, c, down);
     }
     if f.resume {
-        f.resume = false;
-        return answer(PollResult::Resume, k, r, n, c, f);
+        let mut g = f;
+        g.resume = false;
+        return answer(PollResult::Resume, k, r, n, c, g);
     }
     if f.suspend {
-        f.reset = false;
-        return answer(PollResult::Suspend, k, r, n, c, f);
+        return answer(PollResult::Suspend, k, r, n, c, down);
     }
     round(k, r, list, n)
 }

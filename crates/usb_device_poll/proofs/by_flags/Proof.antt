@@ -4,11 +4,14 @@ use borrow.Author.Needs.{needs}
 use Rattle.usb_device_poll.proofs.by_flags.Statement.{statement}
 use Rattle.usb_device_poll.proofs.by_flags.Tie as tie
 
+reset-down-requires : tie.Need-reset-down-requires
+reset-down-requires c κs = search needs
+
 answer-requires : tie.Need-answer-requires
 answer-requires c κs = search needs
 
 returns : tie.Need-returns
-returns c = resets _ _ (c .before .if1 .taken) (c .answer .ensures)
+returns c = resets _ _ (c .before .before .reset-down .ensures) (c .before .if1 .taken) (c .answer .ensures)
 
 answer-requires-2 : tie.Need-answer-requires-2
 answer-requires-2 c κs = search needs
@@ -20,7 +23,7 @@ answer-requires-3 : tie.Need-answer-requires-3
 answer-requires-3 c κs = search needs
 
 returns-3 : tie.Need-returns-3
-returns-3 c = suspends _ _ (c .before .before .before .if1 .left) (c .before .before .if2 .left) (c .before .if3 .taken) (c .answer3 .ensures)
+returns-3 c = suspends _ _ (c .before .before .before .before .reset-down .ensures) (c .before .before .before .if1 .left) (c .before .before .if2 .left) (c .before .if3 .taken) (c .answer3 .ensures)
 
 round-requires : tie.Need-round-requires
 round-requires c κs = search needs
@@ -35,6 +38,7 @@ pub by-flags-spec : {M : Type 1} → statement M
 by-flags-spec =
     tie.close
     (tie.spec
+    reset-down-requires
     answer-requires
     returns
     answer-requires-2

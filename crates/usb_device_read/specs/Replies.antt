@@ -1,0 +1,31 @@
+-- Document 01's table of replies, the rows of `read`: "Given exactly when".
+-- Assumes nothing.
+use Prim.Native.Nat.{ℕ}
+use mathlib.Core.Path.{_≡_}
+use mathlib.Core.Bool.{Bool, true, false, not}
+use lib.Dec.{leb}
+use Rattle.regs.specs.Registers.{withIndex}
+use Rattle.peek.specs.Peek.{short, rxPktRdy}
+use Rattle.record.specs.declared.Record.{Record}
+use Rattle.record.specs.Record.{recordSound, endpointsOf}
+use Rattle.usb_device_read.specs.Read.{notReadable, notSetup}
+
+-- the three tests that come first, passed: enough is lent, the record passes, the endpoint is there
+pub record Admitted (k : Record) (ep fifo list : ℕ) : Type 0 where
+  pub lent : short k fifo list ≡ false
+  pub passes : recordSound k ≡ true
+  pub there : leb (endpointsOf k) ep ≡ false
+
+-- reply 6: "read: RxPktRdy clear"
+abbrev pub unready : Record → ℕ → Bool
+unready k ep = not (rxPktRdy ep (withIndex (k .regs) ep))
+
+-- a reply's row holds, and in the order 15, 16, 8, 6, 12, 13 none before it. No other number is a reply of read's.
+pub data Given (k : Record) (ep room fifo list : ℕ) : ℕ → Type 0 where
+  done : Admitted k ep fifo list → unready k ep ≡ false → notReadable k ep ≡ false → notSetup k ep room ≡ false → Given k ep room fifo list 0
+  blocks : Admitted k ep fifo list → unready k ep ≡ true → Given k ep room fifo list 6
+  beyond : short k fifo list ≡ false → recordSound k ≡ true → leb (endpointsOf k) ep ≡ true → Given k ep room fifo list 8
+  unreadable : Admitted k ep fifo list → unready k ep ≡ false → notReadable k ep ≡ true → Given k ep room fifo list 12
+  unset : Admitted k ep fifo list → unready k ep ≡ false → notReadable k ep ≡ false → notSetup k ep room ≡ true → Given k ep room fifo list 13
+  little : short k fifo list ≡ true → Given k ep room fifo list 15
+  unsound : short k fifo list ≡ false → recordSound k ≡ false → Given k ep room fifo list 16
