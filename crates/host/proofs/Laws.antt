@@ -1,7 +1,7 @@
 -- From the promises of an event's steps to its definition, a law for each way through it.
 -- Assumes nothing.
 use Prim.Native.Nat.{ℕ, _≤_, _<_}
-use mathlib.Core.Path.{_≡_, refl, sym, ap, _∙_}
+use mathlib.Core.Path.{_≡_, sym, ap, _∙_}
 use mathlib.Core.Bool.{Bool, true, false}
 use mathlib.Core.List.{List}
 use native.Mathlib.Omega.{arith}
@@ -19,20 +19,14 @@ use Rattle.record.specs.declared.Refusal.{Refusal}
 use Rattle.record.specs.declared.Refusal.the-variants.{TooLong, OutOfTurn}
 use Rattle.record.specs.declared.Entry.{Entry}
 use Rattle.record.specs.declared.Entry.the-variants.{Clear, Refused}
-use Rattle.record.specs.Record.{entryBy, endpointsOf, areaOf, needOf, withRegs}
+use Rattle.record.specs.Record.{endpointsOf, areaOf, needOf, withRegs}
 use Rattle.record.proofs.Areas.{area-within}
+use Rattle.record.proofs.Rows.{none-refused}
 use Rattle.record.proofs.Passing.{record-is-sound, waiting-fits}
 use Rattle.host.specs.declared.Host.{Host}
 use Rattle.host.specs.declared.Taken.the-variants as taken
 use Rattle.host.specs.declared.Collected.{Collected}
 use Rattle.host.specs.Host.{refused, done, unless, entryAt, Admitted, arrivalRefusal, arrivalCall, collectionRefusal, collectedFrom, collectionCall, InBuffer}
-
--- where the first tests refuse nothing, none of them holds
-clear : (s p b : Bool) → entryBy s p b ≡ Clear → (s ≡ false) × (p ≡ true) × (b ≡ false)
-clear true p b e = let z : _≡_ {A = ℕ} 0 1 = cc in absurd (omega arith)
-clear false false b e = let z : _≡_ {A = ℕ} 0 1 = cc in absurd (omega arith)
-clear false true true e = let z : _≡_ {A = ℕ} 0 1 = cc in absurd (omega arith)
-clear false true false e = (refl, refl, refl)
 
 pub never {ℓ} : {A : Type ℓ} {x : Refusal} → Refused x ≡ Clear → A
 never e = let z : _≡_ {A = ℕ} 0 1 = cc in absurd (omega arith)
@@ -43,7 +37,7 @@ at-most k = at-most-six (k .regs .board)
 
 pub admitted : (k : Record) (e m : ℕ) → entryAt k e m ≡ Clear → Admitted k e m
 admitted k e m p =
-    let c = clear _ _ _ p in
+    let c = none-refused _ _ _ p in
     record {
       enough = ltb-false m (needOf k) (c .0);
       sound = c .1;

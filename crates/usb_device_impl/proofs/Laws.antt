@@ -1,7 +1,7 @@
 -- From the promises of a call's steps to its definition, a law for each way through it.
 -- Assumes nothing.
 use Prim.Native.Nat.{ℕ, _≤_, _<_}
-use mathlib.Core.Path.{_≡_, refl, sym, ap, _∙_}
+use mathlib.Core.Path.{_≡_, sym, ap, _∙_}
 use mathlib.Core.Bool.{Bool, true, false}
 use mathlib.Core.List.{List}
 use native.Mathlib.Omega.{arith}
@@ -21,22 +21,16 @@ use Rattle.record.specs.declared.Refusal.the-variants.{BadAddress}
 use Rattle.record.specs.declared.Entry.{Entry}
 use Rattle.record.specs.declared.Entry.the-variants.{Clear, Refused}
 use Rattle.record.specs.Record.{entryBy, endpointsOf}
+use Rattle.record.proofs.Rows.{none-refused}
 use Rattle.usb_device_impl.specs.declared.Called.{Called}
 use Rattle.usb_device_impl.specs.declared.IsStalled.{IsStalled}
 use Rattle.usb_device_impl.specs.declared.AllocEp.{AllocEp}
 use Rattle.usb_device_impl.specs.declared.Allocation.the-variants as allocation
 use Rattle.usb_device_impl.specs.Calls.{Outcome, ToldOutcome, refused, done, stored, unless, toldDone, toldRefused, toldOf, unlessTold, unlessAllocated, addressEntry, epStall, txEnabled, rxEnabled, usedEnabled, enabledBelow, resetStores}
 
--- where the first tests refuse nothing, none of them holds
-pub clear : (s p b : Bool) → entryBy s p b ≡ Clear → (s ≡ false) × (p ≡ true) × (b ≡ false)
-clear true p b e = let z : _≡_ {A = ℕ} 0 1 = cc in absurd (omega arith)
-clear false false b e = let z : _≡_ {A = ℕ} 0 1 = cc in absurd (omega arith)
-clear false true true e = let z : _≡_ {A = ℕ} 0 1 = cc in absurd (omega arith)
-clear false true false e = (refl, refl, refl)
-
--- so the list is long enough
+-- where the first tests refuse nothing, the list is long enough
 pub room : (n : ℕ) (p b : Bool) {t : Entry} → t ≡ entryBy (ltb n 384) p b → t ≡ Clear → 384 ≤ n
-room n p b is e = ltb-false n 384 (clear (ltb n 384) p b (sym is ∙ e) .0)
+room n p b is e = ltb-false n 384 (none-refused (ltb n 384) p b (sym is ∙ e) .0)
 
 pub never : {x : Refusal} {n : ℕ} → Refused x ≡ Clear → 384 ≤ n
 never e = let z : _≡_ {A = ℕ} 0 1 = cc in absurd (omega arith)

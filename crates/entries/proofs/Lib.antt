@@ -1,0 +1,5 @@
+pub mod Cases
+pub mod Ranges
+pub mod Meanings
+pub mod Inside
+pub mod Codes

@@ -1,0 +1,340 @@
+// The entries of an event trace: a code, its arguments, each in its range (document 01, 'Event trace').
+// Every number goes through `reader::number_from`. A packet stays in the trace: an entry holds its start and its length.
+ghost use mathlib.Core.Path.{_≡_};
+ghost use Prim.Native.Nat.{_≤_};
+ghost use lib.ListN.{length};
+ghost use Rattle.entries.specs.Arguments.{argAt, twoAt, directionOf, wantedOf, typeOf, busOf, flagOf};
+ghost use Rattle.entries.specs.Entries.{allocateAt, addressAt, heldIn, packetAt, writeAt, readAt, stallAt, isStalledAt, arrivalAt, collectAt, busAt, underrunAt, overrunAt, codeAt, entryAt, codeOf};
+use alloc_endpoint::EndpointType;
+use alloc_endpoint::Wanted;
+use board::Direction;
+use reader::Number;
+
+pub enum BusEvent {
+    Reset,
+    Suspend,
+    Resume,
+}
+
+// One case for each code, 1 to 17 in this order. A packet is its endpoint, where its bytes start in the trace, and how many they are.
+pub enum Entry {
+    Allocate(Direction, Wanted, EndpointType, u16),
+    Init,
+    Reset,
+    Address(u8),
+    Write(u8, usize, usize),
+    Read(u8, u16),
+    Stall(u8, Direction, bool),
+    IsStalled(u8, Direction),
+    Poll,
+    Interrupt,
+    Enable,
+    Arrival(u8, usize, usize),
+    Collect(u8),
+    Bus(BusEvent),
+    SetupEnd,
+    Underrun(u8),
+    Overrun(u8),
+}
+
+// What stands at a place of a trace: an entry with the place of the next, the end, or something bad.
+pub enum Parsed {
+    Found(Entry, usize),
+    End,
+    Bad,
+}
+
+// An argument in its range, with the place after it.
+pub enum Arg {
+    Got(u16, usize),
+    No,
+}
+
+// Two arguments, each in its range, with the place after them.
+pub enum Two {
+    Both(u16, u16, usize),
+    Neither,
+}
+
+// A packet (endpoint, start, length) whose bytes lie inside the trace, with the place after them.
+pub enum Held {
+    Bytes(u8, usize, usize, usize),
+    Cut,
+}
+
+fn arg_at(s: &[u8], at: usize, most: u16) -> Arg
+    ensures { λ r. ⌜ r ≡ argAt (now (s .entry)) at most ⌝ }
+{
+    match reader::number_from(s, at) {
+        Number::Value(a, past) => {
+            if a <= most {
+                Arg::Got(a, past)
+            } else {
+                Arg::No
+            }
+        }
+        Number::Bad => Arg::No,
+    }
+}
+
+fn two_at(s: &[u8], at: usize, m: u16, n: u16) -> Two
+    ensures { λ r. ⌜ r ≡ twoAt (now (s .entry)) at m n ⌝ }
+{
+    match arg_at(s, at, m) {
+        Arg::Got(a, mid) => match arg_at(s, mid, n) {
+            Arg::Got(b, past) => Two::Both(a, b, past),
+            Arg::No => Two::Neither,
+        },
+        Arg::No => Two::Neither,
+    }
+}
+
+fn narrow(n: u16) -> u8
+    requires { ⌜ n ≤ 255 ⌝ }
+    ensures { λ r. ⌜ r ≡ n ⌝ }
+{
+    n as u8
+}
+
+fn direction_of(n: u16) -> Direction
+    ensures { λ r. ⌜ r ≡ directionOf n ⌝ }
+{
+    if n == 0 {
+        Direction::Out
+    } else {
+        Direction::In
+    }
+}
+
+fn flag_of(n: u16) -> bool
+    ensures { λ r. ⌜ r ≡ flagOf n ⌝ }
+{
+    n == 1
+}
+
+fn wanted_of(n: u16) -> Wanted
+    requires { ⌜ n ≤ 256 ⌝ }
+    ensures { λ r. ⌜ r ≡ wantedOf n ⌝ }
+{
+    if n == 0 {
+        return Wanted::Any;
+    }
+    Wanted::Number((n - 1) as u8)
+}
+
+fn type_of(n: u16) -> EndpointType
+    ensures { λ r. ⌜ r ≡ typeOf n ⌝ }
+{
+    match n {
+        0 => EndpointType::Control,
+        1 => EndpointType::Isochronous,
+        2 => EndpointType::Bulk,
+        _ => EndpointType::Interrupt,
+    }
+}
+
+fn bus_of(n: u16) -> BusEvent
+    ensures { λ r. ⌜ r ≡ busOf n ⌝ }
+{
+    match n {
+        0 => BusEvent::Reset,
+        1 => BusEvent::Suspend,
+        _ => BusEvent::Resume,
+    }
+}
+
+fn allocate_at(s: &[u8], at: usize) -> Parsed
+    ensures { λ r. ⌜ r ≡ allocateAt (now (s .entry)) at ⌝ }
+{
+    match two_at(s, at, 1, 256) {
+        Two::Both(d, w, mid) => match two_at(s, mid, 3, 65535) {
+            Two::Both(t, n, past) => Parsed::Found(
+                Entry::Allocate(direction_of(d), wanted_of(w), type_of(t), n),
+                past,
+            ),
+            Two::Neither => Parsed::Bad,
+        },
+        Two::Neither => Parsed::Bad,
+    }
+}
+
+fn address_at(s: &[u8], at: usize) -> Parsed
+    ensures { λ r. ⌜ r ≡ addressAt (now (s .entry)) at ⌝ }
+{
+    match arg_at(s, at, 255) {
+        Arg::Got(a, past) => Parsed::Found(Entry::Address(narrow(a)), past),
+        Arg::No => Parsed::Bad,
+    }
+}
+
+// A packet of n bytes from start on.
+fn held_in(s: &[u8], e: u8, n: usize, start: usize) -> Held
+    requires { ⌜ start ≤ length (now s) ⌝ }
+    ensures { λ r. ⌜ r ≡ heldIn (now (s .entry)) e n start ⌝ }
+{
+    if s.len() - start < n {
+        return Held::Cut;
+    }
+    Held::Bytes(e, start, n, start + n)
+}
+
+// Endpoint, length, bytes. Form comes before meaning: a packet that is cut is bad whatever its endpoint.
+fn packet_at(s: &[u8], at: usize) -> Held
+    ensures { λ r. ⌜ r ≡ packetAt (now (s .entry)) at ⌝ }
+{
+    match two_at(s, at, 255, 65535) {
+        Two::Both(e, n, start) => held_in(s, narrow(e), n as usize, start),
+        Two::Neither => Held::Cut,
+    }
+}
+
+fn write_at(s: &[u8], at: usize) -> Parsed
+    ensures { λ r. ⌜ r ≡ writeAt (now (s .entry)) at ⌝ }
+{
+    match packet_at(s, at) {
+        Held::Bytes(e, start, n, past) => Parsed::Found(Entry::Write(e, start, n), past),
+        Held::Cut => Parsed::Bad,
+    }
+}
+
+fn read_at(s: &[u8], at: usize) -> Parsed
+    ensures { λ r. ⌜ r ≡ readAt (now (s .entry)) at ⌝ }
+{
+    match two_at(s, at, 255, 512) {
+        Two::Both(e, n, past) => Parsed::Found(Entry::Read(narrow(e), n), past),
+        Two::Neither => Parsed::Bad,
+    }
+}
+
+fn stall_at(s: &[u8], at: usize) -> Parsed
+    ensures { λ r. ⌜ r ≡ stallAt (now (s .entry)) at ⌝ }
+{
+    match two_at(s, at, 255, 1) {
+        Two::Both(e, d, mid) => match arg_at(s, mid, 1) {
+            Arg::Got(a, past) => Parsed::Found(
+                Entry::Stall(narrow(e), direction_of(d), flag_of(a)),
+                past,
+            ),
+            Arg::No => Parsed::Bad,
+        },
+        Two::Neither => Parsed::Bad,
+    }
+}
+
+fn is_stalled_at(s: &[u8], at: usize) -> Parsed
+    ensures { λ r. ⌜ r ≡ isStalledAt (now (s .entry)) at ⌝ }
+{
+    match two_at(s, at, 255, 1) {
+        Two::Both(e, d, past) => Parsed::Found(Entry::IsStalled(narrow(e), direction_of(d)), past),
+        Two::Neither => Parsed::Bad,
+    }
+}
+
+fn arrival_at(s: &[u8], at: usize) -> Parsed
+    ensures { λ r. ⌜ r ≡ arrivalAt (now (s .entry)) at ⌝ }
+{
+    match packet_at(s, at) {
+        Held::Bytes(e, start, n, past) => Parsed::Found(Entry::Arrival(e, start, n), past),
+        Held::Cut => Parsed::Bad,
+    }
+}
+
+fn collect_at(s: &[u8], at: usize) -> Parsed
+    ensures { λ r. ⌜ r ≡ collectAt (now (s .entry)) at ⌝ }
+{
+    match arg_at(s, at, 255) {
+        Arg::Got(a, past) => Parsed::Found(Entry::Collect(narrow(a)), past),
+        Arg::No => Parsed::Bad,
+    }
+}
+
+fn bus_at(s: &[u8], at: usize) -> Parsed
+    ensures { λ r. ⌜ r ≡ busAt (now (s .entry)) at ⌝ }
+{
+    match arg_at(s, at, 2) {
+        Arg::Got(a, past) => Parsed::Found(Entry::Bus(bus_of(a)), past),
+        Arg::No => Parsed::Bad,
+    }
+}
+
+fn underrun_at(s: &[u8], at: usize) -> Parsed
+    ensures { λ r. ⌜ r ≡ underrunAt (now (s .entry)) at ⌝ }
+{
+    match arg_at(s, at, 255) {
+        Arg::Got(a, past) => Parsed::Found(Entry::Underrun(narrow(a)), past),
+        Arg::No => Parsed::Bad,
+    }
+}
+
+fn overrun_at(s: &[u8], at: usize) -> Parsed
+    ensures { λ r. ⌜ r ≡ overrunAt (now (s .entry)) at ⌝ }
+{
+    match arg_at(s, at, 255) {
+        Arg::Got(a, past) => Parsed::Found(Entry::Overrun(narrow(a)), past),
+        Arg::No => Parsed::Bad,
+    }
+}
+
+// The entry with this code whose arguments begin at a place.
+fn code_at(s: &[u8], code: u16, at: usize) -> Parsed
+    ensures { λ r. ⌜ r ≡ codeAt (now (s .entry)) code at ⌝ }
+{
+    match code {
+        1 => allocate_at(s, at),
+        2 => Parsed::Found(Entry::Init, at),
+        3 => Parsed::Found(Entry::Reset, at),
+        4 => address_at(s, at),
+        5 => write_at(s, at),
+        6 => read_at(s, at),
+        7 => stall_at(s, at),
+        8 => is_stalled_at(s, at),
+        9 => Parsed::Found(Entry::Poll, at),
+        10 => Parsed::Found(Entry::Interrupt, at),
+        11 => Parsed::Found(Entry::Enable, at),
+        12 => arrival_at(s, at),
+        13 => collect_at(s, at),
+        14 => bus_at(s, at),
+        15 => Parsed::Found(Entry::SetupEnd, at),
+        16 => underrun_at(s, at),
+        17 => overrun_at(s, at),
+        _ => Parsed::Bad,
+    }
+}
+
+// What stands at a place of a trace.
+pub fn entry_at(trace: &[u8], at: usize) -> Parsed
+    ensures { λ r. ⌜ r ≡ entryAt (now (trace .entry)) at ⌝ }
+{
+    if trace.len() <= at {
+        return Parsed::End;
+    }
+    match reader::number_from(trace, at) {
+        Number::Value(code, past) => code_at(trace, code, past),
+        Number::Bad => Parsed::Bad,
+    }
+}
+
+// Document 01's code of an entry, which its line begins with.
+pub fn code_of(e: Entry) -> u8
+    ensures { λ r. ⌜ r ≡ codeOf e ⌝ }
+{
+    match e {
+        Entry::Allocate(_, _, _, _) => 1,
+        Entry::Init => 2,
+        Entry::Reset => 3,
+        Entry::Address(_) => 4,
+        Entry::Write(_, _, _) => 5,
+        Entry::Read(_, _) => 6,
+        Entry::Stall(_, _, _) => 7,
+        Entry::IsStalled(_, _) => 8,
+        Entry::Poll => 9,
+        Entry::Interrupt => 10,
+        Entry::Enable => 11,
+        Entry::Arrival(_, _, _) => 12,
+        Entry::Collect(_) => 13,
+        Entry::Bus(_) => 14,
+        Entry::SetupEnd => 15,
+        Entry::Underrun(_) => 16,
+        Entry::Overrun(_) => 17,
+    }
+}
