@@ -3,3 +3,4 @@ pub mod Turns
 pub mod Answers
 pub mod Once
 pub mod Cases
+pub mod Drained
