@@ -1,0 +1,104 @@
+-- Every public call and host event as one kind of operation: its arguments, what it is lent, and all that it leaves.
+-- Assumes nothing.
+use Prim.Native.Nat.{ℕ}
+use mathlib.Core.Bool.{Bool}
+use mathlib.Core.List.{List, []}
+use Rattle.board.specs.declared.Direction.{Direction}
+use Rattle.alloc_endpoint.specs.declared.Wanted.{Wanted}
+use Rattle.alloc_endpoint.specs.Endpoints.{Ask}
+use Rattle.record.specs.declared.Record.{Record}
+use Rattle.usb_device_impl.specs.declared.AllocEp.{AllocEp}
+use Rattle.usb_device_impl.specs.Calls as impl
+use Rattle.usb_device_write.specs.Write.{WriteOutcome, writeCall, wroteNumber}
+use Rattle.usb_device_read.specs.Read.{ReadOutcome, readCall, gotNumber}
+use Rattle.usb_device_poll.specs.Poll.{PollOutcome, pollCall, pollNumber}
+use Rattle.usb_device_interrupt.specs.declared.OnInterrupt.{OnInterrupt}
+use Rattle.usb_device_interrupt.specs.Interrupt.{interruptCall, interruptNumber}
+use Rattle.host.specs.declared.Host.{Host}
+use Rattle.host.specs.declared.Collected.{Collected}
+use Rattle.host.specs.Host as host
+
+-- The buffers and their contents are part of the operation, so each call may be lent another buffer.
+pub data Op : Type 0 where
+  allocEp : Ask → Wanted → Op
+  busInit : List ℕ → Op  -- the lent list
+  enable : List ℕ → Op
+  reset : List ℕ → Op
+  setDeviceAddress : ℕ → List ℕ → Op
+  write : ℕ → List ℕ → List ℕ → List ℕ → Op  -- endpoint, bytes, FIFO buffer, list
+  read : ℕ → List ℕ → List ℕ → List ℕ → Op  -- endpoint, FIFO buffer, list, the caller's buffer
+  setStalled : ℕ → Direction → Bool → List ℕ → Op
+  isStalled : ℕ → Direction → List ℕ → Op
+  poll : List ℕ → Op
+  onInterrupt : Op
+  forceReset : Op
+  arrival : ℕ → List ℕ → List ℕ → Op  -- endpoint, bytes, FIFO buffer
+  collection : ℕ → List ℕ → Op  -- endpoint, FIFO buffer
+  busReset suspend resume setupEnd : Op
+  underrun overrun : ℕ → Op
+
+-- All that an operation leaves: document 01's reply number, the record, and every lent buffer that it may write. A buffer that is not
+-- lent, or lent only to be read, is [].
+pub record Outcome : Type 0 where
+  pub reply : ℕ
+  pub «record» : Record
+  pub fifo : List ℕ
+  pub list : List ℕ
+  pub buf : List ℕ
+
+abbrev pub called : impl.Outcome → Outcome
+called o = record { reply = impl.replyNumber (o .call .answer); «record» = o .call .«record»; fifo = []; list = o .list; buf = [] }
+
+abbrev pub told : impl.ToldOutcome → Outcome
+told o = record { reply = impl.toldNumber (o .call .answer); «record» = o .call .«record»; fifo = []; list = o .list; buf = [] }
+
+abbrev pub allocated : AllocEp → Outcome
+allocated o = record { reply = impl.allocationNumber (o .answer); «record» = o .«record»; fifo = []; list = []; buf = [] }
+
+abbrev pub written : WriteOutcome → Outcome
+written o = record { reply = wroteNumber (o .result .answer); «record» = o .result .«record»; fifo = o .fifo; list = o .list; buf = [] }
+
+abbrev pub fetched : ReadOutcome → Outcome
+fetched o = record { reply = gotNumber (o .result .answer); «record» = o .result .«record»; fifo = []; list = o .list; buf = o .buf }
+
+abbrev pub polled : PollOutcome → Outcome
+polled o = record { reply = pollNumber (o .result .answer); «record» = o .result .«record»; fifo = []; list = o .list; buf = [] }
+
+abbrev pub interrupted : OnInterrupt → Outcome
+interrupted o = record { reply = interruptNumber (o .answer); «record» = o .«record»; fifo = []; list = []; buf = [] }
+
+abbrev pub happened : Host → Outcome
+happened o = record { reply = host.happenedNumber (o .answer); «record» = o .«record»; fifo = []; list = []; buf = [] }
+
+abbrev pub arrived : host.Arrival → Outcome
+arrived o = record { reply = host.happenedNumber (o .event .answer); «record» = o .event .«record»; fifo = o .fifo; list = []; buf = [] }
+
+abbrev pub collected : Collected → Outcome
+collected o = record { reply = host.takenNumber (o .answer); «record» = o .«record»; fifo = []; list = []; buf = [] }
+
+-- Each call's own definition decides; `forceReset` takes no record, so that it leaves any as it was.
+abbrev pub outcome : Record → Op → Outcome
+outcome k (allocEp q w) = allocated (impl.allocEpCall k q w)
+outcome k (busInit l) = called (impl.busInitCall k l)
+outcome k (enable l) = called (impl.enableCall k l)
+outcome k (reset l) = called (impl.resetCall k l)
+outcome k (setDeviceAddress a l) = called (impl.addressCall k a l)
+outcome k (write e b f l) = written (writeCall k e b f l)
+outcome k (read e f l b) = fetched (readCall k e f l b)
+outcome k (setStalled e d s l) = called (impl.setStalledCall k e d s l)
+outcome k (isStalled e d l) = told (impl.isStalledCall k e d l)
+outcome k (poll l) = polled (pollCall k l)
+outcome k onInterrupt = interrupted (interruptCall k)
+outcome k forceReset = record { reply = impl.replyNumber impl.forceResetCall; «record» = k; fifo = []; list = []; buf = [] }
+outcome k (arrival e b f) = arrived (host.arrivalCall k e b f)
+outcome k (collection e f) = collected (host.collectionCall k e f)
+outcome k busReset = happened (host.busResetCall k)
+outcome k suspend = happened (host.suspendCall k)
+outcome k resume = happened (host.resumeCall k)
+outcome k setupEnd = happened (host.setupEndCall k)
+outcome k (underrun e) = happened (host.underrunCall k e)
+outcome k (overrun e) = happened (host.overrunCall k e)
+
+-- the record after an operation
+abbrev pub step : Record → Op → Record
+step k o = outcome k o .«record»
