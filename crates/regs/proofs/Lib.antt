@@ -1,4 +1,5 @@
 pub mod AsWritten
 pub mod Modified
 pub mod Sides
+pub mod Readings
 pub mod Soundness

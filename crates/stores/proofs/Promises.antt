@@ -19,7 +19,7 @@ use Rattle.regs.specs.declared.control.Csr0l.{Csr0l}
 use Rattle.regs.specs.declared.control.Csr0lSet.{Csr0lSet}
 use Rattle.regs.specs.declared.control.TxcsrlSet.{TxcsrlSet}
 use Rattle.regs.specs.declared.control.RxcsrlSet.{RxcsrlSet}
-use Rattle.regs.specs.Registers.{Whole, sideAt, chosen, withChosen, withIso, withMaxp, withLen, towards, enabledOf}
+use Rattle.regs.specs.Registers.{Whole, sideAt, withIndex, chosen, withChosen, withIso, withMaxp, withLen, towards, enabledOf}
 use Rattle.regs.specs.Control.{csr0lStored, csr0hFlushed, txStored, rxStored, csr0lRead, csr0lSet, txcsrlRead, txcsrlSet, rxcsrlRead, rxcsrlSet}
 use Rattle.regs.proofs.Sides.{side-seen, by-eps, keeps-board, keeps-pending, keeps-length, keeps-index, keeps-faddr}
 use Rattle.regs.proofs.AsWritten.{zero-in, zero-out, zero-other, flush-in, flush-out, flush-other, zero-keeps, flush-keeps}
@@ -115,6 +115,11 @@ rest (maxp c n) g = chosen-keeps (g .regs) c _
 rest intrusbe g = record { board = refl; pending = refl; endpoints = refl; selected = refl; addressed = refl }
 rest (intre c v) g = record { board = refl; pending = refl; endpoints = refl; selected = refl; addressed = refl }
 rest (packet n) g = packet-keeps n g
+
+-- an index store selects, and that is all
+pub index-selects : (e : ℕ) (g : Log) → writeIndex e g .regs ≡ withIndex (g .regs) e
+unfolding writeIndex noted
+index-selects e g = refl
 
 -- "`modify` from what is read": a `modify` is a `write` of what was read with a bit changed
 pub modify-csr0l : (s : Csr0lSet) (g : Log) → modifyCsr0l s g ≡ does (csr0l (csr0lSet s (csr0lRead (g .regs)))) g
