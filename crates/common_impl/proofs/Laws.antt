@@ -2,7 +2,7 @@
 -- Assumes nothing.
 use Prim.Native.Nat.{ℕ}
 use mathlib.Core.Path.{_≡_, refl, sym, ap, _∙_}
-use mathlib.Core.Bool.{Bool, true, false, cond}
+use mathlib.Core.Bool.{Bool, true, false, _||_, cond}
 use borrow.Author.Tests.{eq-eqb, ne-eqb}
 use Rattle.board.specs.declared.Direction.{Direction}
 use Rattle.board.specs.declared.Direction.the-variants.{Out, In}
@@ -14,7 +14,7 @@ use Rattle.regs.specs.declared.control.TxcsrlSet.the-variants.{NoUnderRun}
 use Rattle.regs.specs.declared.control.RxcsrlSet.the-variants.{NoOverRun}
 use Rattle.regs.specs.declared.control.Csr0lSet.the-variants.{ServicedBoth}
 use Rattle.stores.specs.Stores.{Log, writeIndex, writeIntrusbe, writeIntre, modifyIntre, modifyCsr0l, modifyTxcsrl, modifyRxcsrl}
-use Rattle.common_impl.specs.Common.{busInit, selected, flushedZero, enabledZero, enabledOther, settled, sized, writeCsrl, isoWritten, waits, flush, flushed, sendStall, isStalled, underRunCleared, overRunCleared, repaired}
+use Rattle.common_impl.specs.Common.{busInit, selected, flushedZero, enabledZero, enabledOther, settled, sized, writeCsrl, isoWritten, waits, flush, flushed, sendStall, isStalled, underRunCleared, overRunCleared, missed, repaired}
 
 -- a test, passed and failed
 module _ {A : Type 0} {b : Bool} {o : A} (x y : A) where
@@ -41,10 +41,6 @@ module _ (d : Direction) (e : ℕ) (size : ℕ) (g : Log) where
   pub enabled-other : (iso : Bool) {a b o : Log} → a ≡ settled d e size g → b ≡ isoWritten d iso a → o ≡ flushed d b → o ≡ enabledOther d e iso size g
   unfolding enabledOther
   enabled-other iso p q s = s ∙ ap (flushed d) (q ∙ ap (isoWritten d iso) p)
-
-pub repaired-one : (g : Log) (e : ℕ) {a b o : Log} → a ≡ writeIndex e g → b ≡ underRunCleared a → o ≡ overRunCleared b → o ≡ repaired g e
-unfolding repaired
-repaired-one g e p q s = s ∙ ap overRunCleared (q ∙ ap underRunCleared p)
 
 -- endpoint 0, and the others
 module _ (g : Log) (e : ℕ) where
@@ -89,3 +85,19 @@ module _ (g : Log) where
   pub no-over-run : {w : Rxcsrl} → w ≡ rxcsrlRead (g .regs) → w .«over_run» ≡ false → g ≡ overRunCleared g
   unfolding overRunCleared
   no-over-run r t = when-false _ _ (ap (λ (w : Rxcsrl). w .«over_run») (sym r) ∙ t) refl
+
+neither : (x y : Bool) → (x || y) ≡ false → (x ≡ false) × (y ≡ false)
+neither true y p = (p, cc)
+neither false y p = (refl, p)
+
+-- the body of the overrun check where nothing is to be repaired, and where something is
+module _ (g : Log) (e : ℕ) {a : Log} (select : a ≡ writeIndex e g) where
+  pub nothing-missed : missed (a .regs) ≡ false → a ≡ repaired g e
+  unfolding repaired missed
+  nothing-missed m =
+      let both = neither _ _ m in
+      no-over-run a refl (both .1) ∙ ap overRunCleared (no-under-run a refl (both .0) ∙ ap underRunCleared select)
+
+  pub something-missed : {o : Log} → o ≡ overRunCleared (underRunCleared a) → o ≡ repaired g e
+  unfolding repaired
+  something-missed p = p ∙ ap (λ (h : Log). overRunCleared (underRunCleared h)) select

@@ -1,7 +1,7 @@
 -- What the functions of the source's common_impl.rs store, each as a step from a Log to a Log over the model's operations.
 -- Assumes nothing.
 use Prim.Native.Nat.{ℕ, zero, suc, _-_}
-use mathlib.Core.Bool.{Bool, true, false, not, cond}
+use mathlib.Core.Bool.{Bool, true, false, not, _||_, cond}
 use mathlib.Core.List.{List, [], _∷_, foldl}
 use lib.Dec.{eqb}
 use lib.ListN.{length}
@@ -109,6 +109,10 @@ underRunCleared g = cond (txcsrlRead (g .regs) .«under_run») (modifyTxcsrl txc
 
 unfoldable pub overRunCleared : Log → Log
 overRunCleared g = cond (rxcsrlRead (g .regs) .«over_run») (modifyRxcsrl rxcsrl.NoOverRun g) g
+
+-- whether the selected endpoint has anything to repair
+unfoldable pub missed : Regs → Bool
+missed r = txcsrlRead r .«under_run» || rxcsrlRead r .«over_run»
 
 unfoldable pub repaired : Log → ℕ → Log
 repaired g e = overRunCleared (underRunCleared (writeIndex e g))

@@ -15,7 +15,7 @@ ghost use Prim.Native.Nat.{_+_, _*_, _≤_, _<_};
 ghost use lib.ListN.{length};
 ghost use Rattle.board.specs.declared.Direction.the-variants.{Out, In};
 ghost use Rattle.stores.specs.Stores.{log, logOf, writeIndex};
-ghost use Rattle.common_impl.specs.Common.{busInit, selected, stallCsr0l, writeCsrl, epTxStall, epRxStall, sendStall, isStalled, flushedZero, enabledZero, isoWritten, waits, flush, flushed, sized, settled, enabledOther, enabled, isochronous, epTxEnable, epRxEnable, underRunCleared, overRunCleared, repaired, checkOverrun};
+ghost use Rattle.common_impl.specs.Common.{busInit, selected, stallCsr0l, writeCsrl, epTxStall, epRxStall, sendStall, isStalled, flushedZero, enabledZero, isoWritten, waits, flush, flushed, sized, settled, enabledOther, enabled, isochronous, epTxEnable, epRxEnable, underRunCleared, overRunCleared, missed, checkOverrun};
 
 pub fn bus_init(r: Regs, list: &mut [u16], n: usize) -> Logged
     requires { ⌜ n * 3 + 9 ≤ length (now list) ⌝ }
@@ -342,13 +342,21 @@ fn clear_over_run(r: Regs, list: &mut [u16], n: usize) -> Logged
     Logged { regs: r, n: n }
 }
 
-fn repair(r: Regs, list: &mut [u16], n: usize, index: u8) -> Logged
-    requires { ⌜ n * 3 + 9 ≤ length (now list) ⌝ }
-    ensures { λ o. ⌜ (logOf o (now (list .exit)) ≡ repaired (log r (now (list .entry)) n) index) × (o .n ≤ n + 3) ⌝ }
+fn repair(r: Regs, list: &mut [u16], n: usize) -> Logged
+    requires { ⌜ n * 3 + 6 ≤ length (now list) ⌝ }
+    ensures { λ o. ⌜ (logOf o (now (list .exit)) ≡ overRunCleared (underRunCleared (log r (now (list .entry)) n))) × (o .n ≤ n + 2) ⌝ }
 {
-    let a = stores::write_index(r, list, n, index);
-    let b = clear_under_run(a.regs, list, a.n);
+    let b = clear_under_run(r, list, n);
     clear_over_run(b.regs, list, b.n)
+}
+
+// Most often nothing is to be repaired, and then the registers stay where they are.
+fn has_missed(r: Regs) -> bool
+    ensures { λ b. ⌜ b ≡ missed r ⌝ }
+{
+    let a = control::read_txcsrl(r);
+    let b = control::read_rxcsrl(r);
+    a.under_run | b.over_run
 }
 
 pub fn check_overrun(r: Regs, list: &mut [u16], n: usize) -> Logged
@@ -356,9 +364,16 @@ pub fn check_overrun(r: Regs, list: &mut [u16], n: usize) -> Logged
     ensures { λ o. ⌜ (logOf o (now (list .exit)) ≡ checkOverrun (log r (now (list .entry)) n)) × (o .n ≤ n + 15) ⌝ }
 {
     let board = r.board;
-    let mut o = Logged { regs: r, n: n };
+    let mut s = r;
+    let mut m = n;
     for index in 1..board::endpoints(board) {
-        o = repair(o.regs, list, o.n, index);
+        s = stores::select(s, index);
+        m = stores::note_select(list, m, index);
+        if has_missed(s) {
+            let o = repair(s, list, m);
+            s = o.regs;
+            m = o.n;
+        }
     }
-    o
+    Logged { regs: s, n: m }
 }

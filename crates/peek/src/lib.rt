@@ -13,18 +13,10 @@ pub fn is_short(k: Record, fifo: usize, list: usize) -> bool
     (fifo < record::need(k)) | (list < 384)
 }
 
-fn selected(r: Regs, e: u8) -> Regs
-    ensures { λ o. ⌜ o ≡ withIndex r e ⌝ }
-{
-    let mut o = r;
-    o.index = e;
-    o
-}
-
 pub fn tx_pkt_rdy(r: Regs, e: u8) -> bool
     ensures { λ b. ⌜ b ≡ txPktRdy e (withIndex r e) ⌝ }
 {
-    let s = selected(r, e);
+    let s = stores::select(r, e);
     if e == 0 {
         let w = control::read_csr0l(s);
         return w.tx_pkt_rdy;
@@ -36,7 +28,7 @@ pub fn tx_pkt_rdy(r: Regs, e: u8) -> bool
 pub fn rx_pkt_rdy(r: Regs, e: u8) -> bool
     ensures { λ b. ⌜ b ≡ rxPktRdy e (withIndex r e) ⌝ }
 {
-    let s = selected(r, e);
+    let s = stores::select(r, e);
     if e == 0 {
         let w = control::read_csr0l(s);
         return w.rx_pkt_rdy;
@@ -48,7 +40,7 @@ pub fn rx_pkt_rdy(r: Regs, e: u8) -> bool
 pub fn rx_count(r: Regs, e: u8) -> u16
     ensures { λ n. ⌜ n ≡ rxCount e (withIndex r e) ⌝ }
 {
-    let s = selected(r, e);
+    let s = stores::select(r, e);
     if e == 0 {
         return control::read_count0(s);
     }

@@ -17,12 +17,8 @@ use Rattle.regs.specs.Control.{txStored, rxStored, txcsrlRead, txcsrlSet, rxcsr
 use Rattle.regs.proofs.Modified.{txcsrl-stall, rxcsrl-stall}
 use Rattle.regs.proofs.AsWritten.{tx-stall, rx-stall}
 use Rattle.stores.specs.Stores.{Log}
-use Rattle.stores.specs.Promise.{Store, faddr, power, index, csr0l, csr0h, txcsrl, rxcsrl, iso, maxp, intrusbe, intre, packet, does, leaves}
+use Rattle.stores.specs.Promise.{Store, faddr, power, index, csr0l, csr0h, txcsrl, rxcsrl, iso, maxp, intrusbe, intre, packet, does, leaves, SameHalts}
 use Rattle.stores.proofs.Promises.{sides}
-
--- the same halts at 1 to 5
-abbrev pub SameHalts : Regs → Regs → Type 0
-SameHalts r q = (e : ℕ) (d : Direction) → (e ≡ 0 → ⊥) → sideAt q e d .stall ≡ sideAt r e d .stall
 
 -- the written SendStall bit is the one that stands there
 abbrev pub SameStall : Store → Regs → Type 0

@@ -23,7 +23,7 @@ use Rattle.regs.specs.Registers.{Whole, sideAt, withIndex, chosen, withChosen, 
 use Rattle.regs.specs.Control.{csr0lStored, csr0hFlushed, txStored, rxStored, csr0lRead, csr0lSet, txcsrlRead, txcsrlSet, rxcsrlRead, rxcsrlSet}
 use Rattle.regs.proofs.Sides.{side-seen, by-eps, keeps-board, keeps-pending, keeps-length, keeps-index, keeps-faddr}
 use Rattle.regs.proofs.AsWritten.{zero-in, zero-out, zero-other, flush-in, flush-out, flush-other, zero-keeps, flush-keeps}
-use Rattle.stores.specs.Stores.{Log, noted, FIFO, writeFaddr, writePower, writeIndex, writeCsr0l, flushCsr0h, writeTxcsrl, writeRxcsrl, writeIso, writeMaxp, writeIntrusbe, writeIntre, writePacket, modifyCsr0l, modifyTxcsrl, modifyRxcsrl, modifyIntre, listed}
+use Rattle.stores.specs.Stores.{Log, log, noted, selectListed, FIFO, writeFaddr, writePower, writeIndex, writeCsr0l, flushCsr0h, writeTxcsrl, writeRxcsrl, writeIso, writeMaxp, writeIntrusbe, writeIntre, writePacket, modifyCsr0l, modifyTxcsrl, modifyRxcsrl, modifyIntre, listed}
 use Rattle.stores.specs.Promise.{Store, faddr, power, index, csr0l, csr0h, txcsrl, rxcsrl, iso, maxp, intrusbe, intre, packet, does, leaves, selects, addresses, Kept}
 
 -- a change of the selected endpoint's side of direction c, seen at endpoint e and direction d
@@ -120,6 +120,11 @@ rest (packet n) g = packet-keeps n g
 pub index-selects : (e : ℕ) (g : Log) → writeIndex e g .regs ≡ withIndex (g .regs) e
 unfolding writeIndex noted
 index-selects e g = refl
+
+-- and its two halves are the store
+pub index-halves : (r : Regs) (l : List ℕ) (n e : ℕ) {s : Regs} {k : List ℕ} {m : ℕ} → s ≡ withIndex r e → k ≡ selectListed l n e → m ≡ n + 1 → log s k m ≡ writeIndex e (log r l n)
+unfolding writeIndex noted selectListed
+index-halves r l n e p q h = λ i. log (p i) (q i) (h i)
 
 -- "`modify` from what is read": a `modify` is a `write` of what was read with a bit changed
 pub modify-csr0l : (s : Csr0lSet) (g : Log) → modifyCsr0l s g ≡ does (csr0l (csr0lSet s (csr0lRead (g .regs)))) g

@@ -13,7 +13,7 @@ use Rattle.regs.specs.declared.Regs.{Regs}
 use Rattle.regs.specs.declared.control.Csr0l.{Csr0l}
 use Rattle.regs.specs.declared.control.Txcsrl.{Txcsrl}
 use Rattle.regs.specs.declared.control.Rxcsrl.{Rxcsrl}
-use Rattle.regs.specs.Registers.{withIso, withMaxp, withLen, towards, enabled}
+use Rattle.regs.specs.Registers.{sideAt, withIso, withMaxp, withLen, towards, enabled}
 use Rattle.regs.specs.Control.{txStored, rxStored, zeroTxStored, dropped, csr0lNumber, txcsrlNumber, rxcsrlNumber}
 use Rattle.stores.specs.Stores as Stores
 use Rattle.stores.specs.Stores.{Log, listed, FADDR, POWER, INDEX, CSR0L, CSR0H, TXCSRL, RXCSRL, INTRUSBE, FIFO, csrh, writeFaddr, writePower, writeIndex, writeCsr0l, flushCsr0h, writeTxcsrl, writeRxcsrl, writeIso, writeMaxp, writeIntrusbe, writeIntre, writePacket}
@@ -194,3 +194,7 @@ pub record Kept (r q : Regs) (selection address : ℕ) : Type 0 where
   pub endpoints : length (q .eps) ≡ length (r .eps)
   pub selected : q .index ≡ selection
   pub addressed : q .faddr ≡ address
+
+-- the same halts, SendStall, at 1 to 5
+abbrev pub SameHalts : Regs → Regs → Type 0
+SameHalts r q = (e : ℕ) (d : Direction) → (e ≡ 0 → ⊥) → sideAt q e d .stall ≡ sideAt r e d .stall

@@ -1,7 +1,7 @@
 -- The stores: what each does to the registers and what it lists. A store goes from a Log to a Log.
 -- Assumes nothing.
 use Prim.Native.Nat.{ℕ, _+_, _*_}
-use mathlib.Core.Bool.{Bool, cond}
+use mathlib.Core.Bool.{cond}
 use mathlib.Core.List.{List}
 use lib.Dec.{eqb}
 use lib.ListN.{set}
@@ -16,7 +16,7 @@ use Rattle.regs.specs.declared.control.Csr0lSet.{Csr0lSet}
 use Rattle.regs.specs.declared.control.TxcsrlSet.{TxcsrlSet}
 use Rattle.regs.specs.declared.control.RxcsrlSet.{RxcsrlSet}
 use Rattle.stores.specs.declared.Logged.{Logged}
-use Rattle.regs.specs.Registers.{withIndex, withFaddr, withPower, withEnable, withSide, sideAt, chosen, withChosen, withIso, withMaxp, withLen, enabledOf, enabled}
+use Rattle.regs.specs.Registers.{withIndex, withFaddr, withPower, withEnable, chosen, withChosen, withIso, withMaxp, withLen, enabledOf, enabled}
 use Rattle.regs.specs.Control.{csr0lNumber, txcsrlNumber, rxcsrlNumber, csr0lRead, txcsrlRead, rxcsrlRead, csr0lStored, csr0hFlushed, txStored, rxStored, csr0lSet, txcsrlSet, rxcsrlSet}
 
 -- the registers, the lent list, and how many stores stand in it
@@ -106,6 +106,10 @@ writeFaddr a g = noted FADDR a (withFaddr (g .regs) a) (g .list) (g .count)
 -- "Power's value is 1, intrusbe's 7."
 unfoldable pub writePower : Log → Log
 writePower g = noted POWER 1 (withPower (g .regs) 1) (g .list) (g .count)
+
+-- "An index store has the new number in both places."
+unfoldable pub selectListed : List ℕ → ℕ → ℕ → List ℕ
+selectListed l n e = listed l n INDEX e e
 
 unfoldable pub writeIndex : ℕ → Log → Log
 writeIndex e g = noted INDEX e (withIndex (g .regs) e) (g .list) (g .count)

@@ -12,8 +12,8 @@ use regs::control::TxcsrlSet;
 ghost use mathlib.Core.Path.{_≡_};
 ghost use Prim.Native.Nat.{_+_, _*_, _≤_, _<_};
 ghost use lib.ListN.{length};
-ghost use Rattle.stores.specs.Stores.{log, logOf, listed, noted, csrh, maxp, intre, writeFaddr, writePower, writeIndex, writeCsr0l, writeTxcsrl, writeRxcsrl, modifyCsr0l, modifyTxcsrl, modifyRxcsrl, flushCsr0h, writeIso, writeMaxp, writeIntrusbe, writeIntre, modifyIntre, writePacket};
-ghost use Rattle.regs.specs.Registers.{withEnable, enabledOf, enabled};
+ghost use Rattle.stores.specs.Stores.{log, logOf, listed, noted, selectListed, csrh, maxp, intre, writeFaddr, writePower, writeIndex, writeCsr0l, writeTxcsrl, writeRxcsrl, modifyCsr0l, modifyTxcsrl, modifyRxcsrl, flushCsr0h, writeIso, writeMaxp, writeIntrusbe, writeIntre, modifyIntre, writePacket};
+ghost use Rattle.regs.specs.Registers.{withIndex, withEnable, enabledOf, enabled};
 
 // Document 01's register numbers.
 const FADDR: u16 = 1;
@@ -90,13 +90,30 @@ pub fn write_power(r: Regs, list: &mut [u16], n: usize) -> Logged
     note(s, list, n, POWER, 1)
 }
 
+// The index store in its two halves, for loops: registers that stay in one place, instead of going into a `Logged` and out again, are
+// not copied.
+pub fn select(r: Regs, e: u8) -> Regs
+    ensures { λ s. ⌜ s ≡ withIndex r e ⌝ }
+{
+    let mut s = r;
+    s.index = e;
+    s
+}
+
+pub fn note_select(list: &mut [u16], n: usize, e: u8) -> usize
+    requires { ⌜ n * 3 + 3 ≤ length (now list) ⌝ }
+    ensures { λ m. ⌜ (m ≡ n + 1) × (now (list .exit) ≡ selectListed (now (list .entry)) n e) ⌝ }
+{
+    put(list, n, INDEX, e, e as u16)
+}
+
 pub fn write_index(r: Regs, list: &mut [u16], n: usize, e: u8) -> Logged
     requires { ⌜ n * 3 + 3 ≤ length (now list) ⌝ }
     ensures { λ o. ⌜ (logOf o (now (list .exit)) ≡ writeIndex e (log r (now (list .entry)) n)) × (o .n ≡ n + 1) ⌝ }
 {
-    let mut s = r;
-    s.index = e;
-    note(s, list, n, INDEX, e as u16)
+    let s = select(r, e);
+    let m = note_select(list, n, e);
+    Logged { regs: s, n: m }
 }
 
 pub fn write_csr0l(r: Regs, list: &mut [u16], n: usize, w: Csr0l) -> Logged

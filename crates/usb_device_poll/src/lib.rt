@@ -15,7 +15,7 @@ ghost use lib.ListN.{length};
 ghost use Rattle.laws.specs.Words.{clear, Lowest};
 ghost use Rattle.stores.specs.Stores.{log};
 ghost use Rattle.record.specs.Record.{recordSound};
-ghost use Rattle.usb_device_poll.specs.Round.{withReset, roundOf, walkOf, sentBy, setupTaken, restarted, cutShort, receivedBy, zeroServed, endpointZero, putBack, acceptStep, readyAt, drained, visit, walked, told};
+ghost use Rattle.usb_device_poll.specs.Round.{withReset, roundOf, walkOf, sentBy, setupTaken, restarted, cutShort, receivedBy, zeroServed, endpointZero, putBack, acceptStep, readyAt, drained, walked, told};
 ghost use Rattle.usb_device_poll.specs.Poll.{outcome, polled, walkedOn, acceptedOn, roundOut, pollLogged, pollServed, pollCall};
 
 // The masks of a Data answer, a bit for each endpoint.
@@ -302,37 +302,27 @@ fn drain(flags: u16, out: u16, e: u8, r: Regs) -> u16
     without(flags, e)
 }
 
-fn visit_endpoint(flags: u16, w: Walked, list: &mut [u16], e: u8) -> Walked
-    requires { ⌜ (flags < 64) × (e < 6) × (w .out < 64) × (w .n * 3 + 3 ≤ length (now list)) ⌝ }
-    ensures { λ o. ⌜ (walkOf o (now (list .exit)) ≡ visit flags (walkOf w (now (list .entry))) e) × (o .n ≡ w .n + 1) × (o .out < 64) ⌝ }
-{
-    let a = stores::write_index(w.regs, list, w.n, e);
-    let r = a.regs;
-    let out = drain(flags, w.out, e, r);
-    Walked {
-        regs: r,
-        n: a.n,
-        out: out,
-    }
-}
-
 // The source's `for index in BitIter(rx_flags)`.
 fn walk(flags: u16, r: Regs, list: &mut [u16], n: usize) -> Walked
     requires { ⌜ (flags < 64) × (n * 3 + 18 ≤ length (now list)) ⌝ }
     ensures { λ o. ⌜ walkOf o (now (list .exit)) ≡ walked flags (log r (now (list .entry)) n) ⌝ }
 {
     let mut rest = flags;
-    let mut w = Walked {
-        regs: r,
-        n: n,
-        out: flags,
-    };
+    let mut s = r;
+    let mut m = n;
+    let mut out = flags;
     while rest != 0 {
         let e = lowest(rest);
         rest = without(rest, e);
-        w = visit_endpoint(flags, w, list, e);
+        s = stores::select(s, e);
+        m = stores::note_select(list, m, e);
+        out = drain(flags, out, e, s);
     }
-    w
+    Walked {
+        regs: s,
+        n: m,
+        out: out,
+    }
 }
 
 fn setup_mask(setup: bool) -> u16

@@ -1,19 +1,24 @@
 -- `common_impl::check_overrun` meets its contract. Assumes nothing.
 use Rattle.board.specs.Boards.{at-most-six}
 use Rattle.common_impl.specs.Common.{checkOverrun}
+use mathlib.Core.Path.{sym, ap, _∙_}
+use mathlib.Core.Logic.{⊎-elim}
 use Prim.Native.Nat.{_-_}
+use lib.ListN.{length}
+use Rattle.stores.proofs.Promises.{index-halves}
+use Rattle.common_impl.proofs.Laws.{nothing-missed, something-missed}
 use native.Mathlib.Omega.{arith}
 use borrow.Author.Needs.{needs}
-use Rattle.stores.specs.Stores.{logOf}
+use Rattle.stores.specs.Stores.{log}
 use Rattle.common_impl.proofs.Walk.{Walking, begin, turn, done}
 use Rattle.common_impl.proofs.check_overrun.Statement.{statement}
 use Rattle.common_impl.proofs.check_overrun.Tie as tie
 
 abbrev Inv-loop : tie.InvT-loop
-Inv-loop list₀ n o₀ index₀ index-end list o index = Walking (logOf o₀ list₀) index-end (logOf o list) index
+Inv-loop list₀ n s₀ m₀ index₀ index-end list s m index = Walking (log s₀ list₀ m₀) index-end (log s list m) index
 
 abbrev μ-loop : tie.MeasureT-loop
-μ-loop list₀ n o₀ index₀ index-end list o index = index-end - index
+μ-loop list₀ n s₀ m₀ index₀ index-end list s m index = index-end - index
 
 endpoints-requires : tie.Need-endpoints-requires Inv-loop μ-loop
 endpoints-requires c κs = search needs
@@ -21,8 +26,20 @@ endpoints-requires c κs = search needs
 loop-holds : tie.Need-loop-holds Inv-loop μ-loop
 loop-holds c = begin _ _ (rw (c .endpoints .ensures) (at-most-six _))
 
+select-requires : tie.Need-select-requires Inv-loop μ-loop
+select-requires c κs = search needs
+
+note-select-requires : tie.Need-note-select-requires Inv-loop μ-loop
+note-select-requires c κs = omega (arith, c .before .before .before .loop .inv .six, c .before .before .before .loop .inv .few, c .before .before .before .loop .inv .long)
+
+has-missed-requires : tie.Need-has-missed-requires Inv-loop μ-loop
+has-missed-requires c κs = search needs
+
 repair-requires : tie.Need-repair-requires Inv-loop μ-loop
-repair-requires c κs = omega (arith, c .before .before .loop .inv .six, c .before .before .loop .inv .few, c .before .before .loop .inv .long)
+repair-requires c κs =
+    let w = c .before .before .before .before .before .before .before .before .before .loop .inv in
+    let m = c .before .before .before .before .before .note-select in
+    omega (arith, w .six, w .few, w .long, m .ensures .0, m .kept)
 
 add-index : tie.Need-add-index Inv-loop μ-loop
 add-index c = search needs
@@ -31,7 +48,15 @@ loop-less : tie.Need-loop-less Inv-loop μ-loop
 loop-less c = omega arith
 
 loop-again : tie.Need-loop-again Inv-loop μ-loop
-loop-again c = turn _ _ _ _ _ (c .before .before .before .before .before .loop .inv) (c .before .before .before .before .loop-test .taken) (c .before .before .repair .ensures .0) (c .before .before .repair .ensures .1) (omega arith)
+loop-again c =
+    let w = c .before .before .before .before .before .before .before .before .loop .inv in
+    let below = c .before .before .before .before .before .before .before .loop-test .taken in
+    let m = c .before .before .before .before .note-select in
+    let selected = index-halves _ _ _ _ (c .before .before .before .before .before .before .select .ensures) (m .ensures .1) (m .ensures .0) in
+    ⊎-elim
+    (λ x. turn _ _ _ _ _ w below ((λ i. log (x .7 i) (x .6 i) (x .8 i)) ∙ something-missed _ _ selected (x .2 .ensures .0)) (omega (arith, x .8, x .2 .ensures .1, m .ensures .0)) (omega (arith, ap length (x .6), x .2 .kept, m .kept)))
+    (λ x. turn _ _ _ _ _ w below ((λ i. log (x .2 i) (x .1 i) (x .3 i)) ∙ nothing-missed _ _ selected (sym (c .before .has-missed .ensures) ∙ x .0 .left)) (omega (arith, x .3, m .ensures .0)) (omega (arith, ap length (x .1), m .kept)))
+    (c .if1 .came)
 
 same-length : tie.Need-same-length Inv-loop μ-loop
 same-length c = c .before .loop .inv .long
@@ -48,6 +73,9 @@ check-overrun-spec =
     μ-loop
     endpoints-requires
     loop-holds
+    select-requires
+    note-select-requires
+    has-missed-requires
     repair-requires
     add-index
     loop-less

@@ -1,11 +1,9 @@
 -- `common_impl::repair` meets its contract. Assumes nothing.
-use Rattle.common_impl.proofs.Laws.{repaired-one}
+use mathlib.Core.Path.{ap, _∙_}
+use Rattle.common_impl.specs.Common.{overRunCleared}
 use borrow.Author.Needs.{needs}
 use Rattle.common_impl.proofs.repair.Statement.{statement}
 use Rattle.common_impl.proofs.repair.Tie as tie
-
-write-index-requires : tie.Need-write-index-requires
-write-index-requires c κs = search needs
 
 clear-under-run-requires : tie.Need-clear-under-run-requires
 clear-under-run-requires c κs = search needs
@@ -17,14 +15,8 @@ same-length : tie.Need-same-length
 same-length c = search needs
 
 returns : tie.Need-returns
-returns c = (search (repaired-one, needs), search needs)
+returns c = (c .before .before .clear-over-run .ensures .0 ∙ ap overRunCleared (c .before .before .before .before .before .before .clear-under-run .ensures .0), search needs)
 
 pub repair-spec : {M : Type 1} → statement M
 repair-spec =
-    tie.close
-    (tie.spec
-    write-index-requires
-    clear-under-run-requires
-    clear-over-run-requires
-    same-length
-    returns)
+    tie.close (tie.spec clear-under-run-requires clear-over-run-requires same-length returns)

@@ -5,8 +5,8 @@ use borrow.Author.Needs.{needs}
 use Rattle.peek.proofs.rx_count.Statement.{statement}
 use Rattle.peek.proofs.rx_count.Tie as tie
 
-selected-requires : tie.Need-selected-requires
-selected-requires c κs = search needs
+select-requires : tie.Need-select-requires
+select-requires c κs = search needs
 
 read-count0-requires : tie.Need-read-count0-requires
 read-count0-requires c κs = search needs
@@ -25,4 +25,4 @@ returns-2 c = rw (ne-eqb (c .before .before .before .args .e) 0 (c .before .if1 
 pub rx-count-spec : {M : Type 1} → statement M
 rx-count-spec =
     tie.close
-    (tie.spec selected-requires read-count0-requires returns read-rxcount-requires returns-2)
+    (tie.spec select-requires read-count0-requires returns read-rxcount-requires returns-2)

@@ -1,16 +1,19 @@
 -- `usb_device_poll::walk` meets its contract. Assumes nothing.
 use native.Mathlib.Omega.{arith}
 use borrow.Author.Needs.{needs}
-use Rattle.usb_device_poll.specs.Round.{walkOf, walked}
+use Rattle.stores.specs.Stores.{log}
+use Rattle.stores.proofs.Promises.{index-halves}
+use Rattle.usb_device_poll.specs.Round.{walk, walked}
+use Rattle.usb_device_poll.proofs.Laws.{visited}
 use Rattle.usb_device_poll.proofs.Turns.{Walking, begin, turn, fits, done}
 use Rattle.usb_device_poll.proofs.walk.Statement.{statement}
 use Rattle.usb_device_poll.proofs.walk.Tie as tie
 
 abbrev Inv-loop : tie.InvT-loop
-Inv-loop flags list₀ n rest₀ w₀ list rest w = Walking flags (walkOf w₀ list₀) (walkOf w list) rest
+Inv-loop flags list₀ n rest₀ s₀ m₀ out₀ list rest s m out = Walking flags (walk (log s₀ list₀ m₀) out₀) (walk (log s list m) out) rest
 
 abbrev μ-loop : tie.MeasureT-loop
-μ-loop flags list₀ n rest₀ w₀ list rest w = rest
+μ-loop flags list₀ n rest₀ s₀ m₀ out₀ list rest s m out = rest
 
 loop-holds : tie.Need-loop-holds Inv-loop μ-loop
 loop-holds c = begin _ _ (c .before .pre .0) (c .before .pre .0)
@@ -21,14 +24,23 @@ lowest-requires c κs = (omega arith, search needs)
 without-requires : tie.Need-without-requires Inv-loop μ-loop
 without-requires c κs = search needs
 
-visit-endpoint-requires : tie.Need-visit-endpoint-requires Inv-loop μ-loop
-visit-endpoint-requires c κs = let w = c .before .before .before .before .loop .inv in let l = c .before .before .lowest .ensures in (search needs, l .below, w .under, fits _ _ _ _ _ w l (c .before .before .before .before .before .before .pre .1))
+select-requires : tie.Need-select-requires Inv-loop μ-loop
+select-requires c κs = search needs
+
+note-select-requires : tie.Need-note-select-requires Inv-loop μ-loop
+note-select-requires c κs = fits _ _ _ _ _ (c .before .before .before .before .before .loop .inv) (c .before .before .before .lowest .ensures) (c .before .before .before .before .before .before .before .pre .1)
+
+drain-requires : tie.Need-drain-requires Inv-loop μ-loop
+drain-requires c κs = let w = c .before .before .before .before .before .before .before .before .loop .inv in (w .small, c .before .before .before .before .before .before .lowest .ensures .below, w .under)
 
 loop-less : tie.Need-loop-less Inv-loop μ-loop
-loop-less c = omega (arith, c .before .before .before .before .without .ensures .0, c .before .before .before .before .before .lowest .ensures .less)
+loop-less c = omega (arith, c .before .before .before .before .before .before .without .ensures .0, c .before .before .before .before .before .before .before .lowest .ensures .less)
 
 loop-again : tie.Need-loop-again Inv-loop μ-loop
-loop-again c = let v = c .before .before .visit-endpoint .ensures in turn _ _ _ _ _ _ _ (c .before .before .before .before .before .before .before .loop .inv) (c .before .before .before .before .before .lowest .ensures) (c .before .before .before .before .without .ensures .0) (v .0) (v .1) (v .2) (omega arith)
+loop-again c =
+    let m = c .before .before .before .note-select in
+    let selected = index-halves _ _ _ _ (c .before .before .before .before .before .select .ensures) (m .ensures .1) (m .ensures .0) in
+    turn _ _ _ _ _ _ _ (c .before .before .before .before .before .before .before .before .before .loop .inv) (c .before .before .before .before .before .before .before .lowest .ensures) (c .before .before .before .before .before .before .without .ensures .0) (visited _ _ _ selected (c .drain .ensures .0)) (m .ensures .0) (c .drain .ensures .1) (omega arith)
 
 same-length : tie.Need-same-length Inv-loop μ-loop
 same-length c = c .before .loop .inv .long
@@ -46,7 +58,9 @@ walk-spec =
     loop-holds
     lowest-requires
     without-requires
-    visit-endpoint-requires
+    select-requires
+    note-select-requires
+    drain-requires
     loop-less
     loop-again
     same-length
