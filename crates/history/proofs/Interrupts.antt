@@ -23,7 +23,7 @@ use Rattle.history.proofs.Look.{look, Kept, below}
 module _ (b : Board) (k : Record) (kept : Kept b k) where
   is-answered : interruptCall k ≡ interruptBy true k
   unfolding interruptCall
-  is-answered = ap (λ (passes : Bool). interruptBy passes k) (sound-record-passes k (kept .sound))
+  is-answered = ap (λ (passes : Bool). interruptBy passes k) (sound-record-passes k (kept .good .sound))
 
   abbrev InterruptDoes : OnInterrupt → Type 0
   InterruptDoes o = Does (look b) k (interruptEvent (o .answer) k) (o .«record»)

@@ -7,3 +7,5 @@ pub mod Polls
 pub mod Arrivals
 pub mod Interrupts
 pub mod Calm
+pub mod Steps
+pub mod Demand

@@ -10,9 +10,8 @@ use lib.ListN.{length}
 use Rattle.laws.specs.Words.{bit}
 use Rattle.board.specs.declared.Board.{Board}
 use Rattle.board.specs.Boards.{rows, at-most-six, at-least-one}
-use Rattle.regs.specs.Registers.{Whole}
 use Rattle.record.specs.declared.Record.{Record}
-use Rattle.record.specs.Record.{SoundRecord}
+use Rattle.calls.specs.Kept.{Good}
 use Rattle.rounds.specs.Machine.{count}
 use Rattle.rounds.specs.Sentences.{Endpoint}
 use Rattle.rounds.proofs.Lawful.{Look, Quiet}
@@ -43,8 +42,7 @@ module _ (b : Board) where
 
   -- it passes reply 16's test, has six endpoints' registers, and is of the board that it was made for
   pub record Kept (k : Record) : Type 0 where
-    pub sound : SoundRecord k
-    pub six : Whole (k .regs)
+    pub good : Good k
     pub board : k .regs .board ≡ b
 
   -- an endpoint of the board has its bit in a word of six
@@ -56,7 +54,7 @@ module _ (b : Board) where
 
   module _ (k : Record) (g : Kept k) where
     pub receive-bound : k .irq .«ep_rx» < 2 ^ length (rows b)
-    receive-bound = rw (← g .board) (g .sound .rx)
+    receive-bound = rw (← g .board) (g .good .sound .rx)
 
     pub small : k .irq .«ep_rx» < 64
     small = le-trans receive-bound (pow-mono (at-most-six b))

@@ -51,13 +51,13 @@ told-names out sent setup = go (eqb sent 0) (eqb out 0) setup refl refl
 
 module _ (b : Board) (k : Record) (kept : Kept b k) where
   none-waits : (e : ℕ) → sideAt (k .regs) e Out .ready ≡ false → sideAt (k .regs) e Out .len ≡ 0
-  none-waits e = kept .sound .regs .side e Out .none
+  none-waits e = kept .good .sound .regs .side e Out .none
 
   at-start : (l : List ℕ) → Waits (k .regs) none-waits (log (k .regs) l 0)
   at-start l =
       record {
-        six = kept .six;
-        low = le-trans (kept .sound .regs .selected) (at-most-six (k .regs .board));
+        six = kept .good .six;
+        low = le-trans (kept .good .sound .regs .selected) (at-most-six (k .regs .board));
         packet = λ e. record { ready = refl; len = refl };
       }
 
@@ -159,9 +159,9 @@ module _ (b : Board) (k : Record) (kept : Kept b k) where
     poll-is : (short r m u : Bool) → ltb (length l) 384 ≡ short → k .irq .reset ≡ r → k .irq .resume ≡ m → k .irq .suspend ≡ u
         → pollCall k l ≡ pollOf short r m u
     unfolding pollCall pollServed pollLogged
-    poll-is true r m u es er em eu = λ i. pollWhen (entryBy (es i) (sound-record-passes k (kept .sound) i) false) k l
+    poll-is true r m u es er em eu = λ i. pollWhen (entryBy (es i) (sound-record-passes k (kept .good .sound) i) false) k l
     poll-is false r m u es er em eu =
-        (λ i. pollWhen (entryBy (es i) (sound-record-passes k (kept .sound) i) false) k l) ∙ (λ i. pollBy (er i) (em i) (eu i) k checked)
+        (λ i. pollWhen (entryBy (es i) (sound-record-passes k (kept .good .sound) i) false) k l) ∙ (λ i. pollBy (er i) (em i) (eu i) k checked)
 
     by-tests : (short r m u : Bool) → k .irq .reset ≡ r → k .irq .resume ≡ m → k .irq .suspend ≡ u → SameDue (pollOf short r m u) → PollDoes (pollOf short r m u)
     by-tests true r m u er em eu due = unchanged (look b) k k refl refl refl refl refl
