@@ -28,18 +28,18 @@ use Rattle.history.proofs.Interrupts.{interrupt-answered}
 use Rattle.history.proofs.Steps.{does, one-place}
 
 module _ (b : Board) where
-  kept-fresh : Kept b (freshRecord b)
+  pub kept-fresh : Kept b (freshRecord b)
   unfolding freshRecord
   kept-fresh = record { good = good-fresh b; board = fresh-rest b .0 }
 
-  kept-step : (k : Record) (o : Op) → Kept b k → Kept b (step k o)
+  pub kept-step : (k : Record) (o : Op) → Kept b k → Kept b (step k o)
   kept-step k o g = record { good = good-step k o (g .good); board = same-board k o ∙ g .board }
 
   none-due : (j : ℕ) → bit (freshRecord b .regs .pending .rx) j ≡ false
   unfolding freshRecord
   none-due j = ap (λ (p : Pending). bit (p .rx) j) (fresh-rest b .3) ∙ bit-zero j
 
-  lawful : Lawful (driver b) (Kept b) (look b)
+  pub lawful : Lawful (driver b) (Kept b) (look b)
   unfolding freshRecord
   lawful =
       record {

@@ -9,3 +9,5 @@ pub mod Interrupts
 pub mod Calm
 pub mod Steps
 pub mod Demand
+pub mod Sample
+pub mod Histories
