@@ -67,25 +67,6 @@ module _ (k : Record) (e : ℕ) (bytes f : List ℕ) where
   unfolding arrivalCall
   arrival-is x p = ap arrivalOf p
 
-  module _ (b : Board) where
-    abbrev ArrivalDoes : Arrival → Type 0
-    ArrivalDoes o = Does (look b) k (arrivalEvent (o .event .answer) e) (o .event .«record»)
-
-    by-refusal : (x : Entry) → refusal ≡ x → ArrivalDoes (arrivalOf x)
-    by-refusal (Refused x) p = unchanged (look b) k k refl refl refl refl refl
-    by-refusal Clear p =
-        record {
-          flag = λ j ep. refl;
-          due = λ j ep.
-              ap (λ (w : Pending). bit (w .rx) j) (pending (events.arrival e (length bytes)) (k .regs))
-              ∙ raised-bits e (length bytes) j (k .regs .pending) (there k e (length bytes) (length f) p) (ep .low) (low b j ep);
-          sent = λ j ep. refl;
-          bus = record { up = omega arith; asleep = refl };
-        }
-
-    pub arrival-does : ArrivalDoes (arrivalCall k e bytes f)
-    arrival-does = subst ArrivalDoes (sym (arrival-is refusal refl)) (by-refusal refusal refl)
-
   -- while a packet waits, no other arrives there
   pub one-arrival : (i : ℕ) → T (waiting k i) → T (not (arrivesAt i (arrivalEvent (arrivalCall k e bytes f .event .answer) e)))
   one-arrival i w = subst (λ (o : Arrival). T (not (arrivesAt i (arrivalEvent (o .event .answer) e)))) (sym (arrival-is refusal refl)) (go refusal refl)
@@ -111,3 +92,23 @@ module _ (k : Record) (e : ℕ) (bytes f : List ℕ) where
       clear = λ i.
           arrivalBy (entryBy (le-ltb (length f) (needOf k) lent i) (passes i) (lt-leb (endpointsOf k) e there i))
           (le-ltb (areaOf k e Out .size) (length bytes) fits i) (down (waiting k e) none i)
+
+  -- what an arrival does, refused or not
+  module _ (b : Board) where
+    abbrev ArrivalDoes : Arrival → Type 0
+    ArrivalDoes o = Does (look b) k (arrivalEvent (o .event .answer) e) (o .event .«record»)
+
+    by-refusal : (x : Entry) → refusal ≡ x → ArrivalDoes (arrivalOf x)
+    by-refusal (Refused x) p = unchanged (look b) k k refl refl refl refl refl
+    by-refusal Clear p =
+        record {
+          flag = λ j ep. refl;
+          due = λ j ep.
+              ap (λ (w : Pending). bit (w .rx) j) (pending (events.arrival e (length bytes)) (k .regs))
+              ∙ raised-bits e (length bytes) j (k .regs .pending) (there k e (length bytes) (length f) p) (ep .low) (low b j ep);
+          sent = λ j ep. refl;
+          bus = record { up = omega arith; asleep = refl };
+        }
+
+    pub arrival-does : ArrivalDoes (arrivalCall k e bytes f)
+    arrival-does = subst ArrivalDoes (sym (arrival-is refusal refl)) (by-refusal refusal refl)

@@ -1,6 +1,7 @@
 -- What the step laws look at in the driver's record, and what every record of a history is. Assumes nothing.
 use mathlib.Core.Path.{_≡_, ap, subst}
-use Prim.Native.Nat.{ℕ, _+_, _%_, _/_, _^_, _≤_, _<_}
+use mathlib.Core.List.{List}
+use Prim.Native.Nat.{ℕ, _+_, _-_, _%_, _/_, _^_, _≤_, _<_}
 use native.Mathlib.Nat.{le-trans, lt-of-not-le, div-eq-of-lt}
 use native.Mathlib.Omega.{arith}
 use native.Mathlib.Decide.{decLe}
@@ -9,7 +10,9 @@ use lib.Pow.{pow-mono}
 use lib.ListN.{length}
 use Rattle.laws.specs.Words.{bit}
 use Rattle.board.specs.declared.Board.{Board}
-use Rattle.board.specs.Boards.{rows, at-most-six, at-least-one}
+use Rattle.board.specs.declared.Board.the-variants.{Display}
+use Rattle.board.specs.declared.Row.{Row}
+use Rattle.board.specs.Boards.{rows, rows-display, at-most-six, at-least-one}
 use Rattle.record.specs.declared.Record.{Record}
 use Rattle.calls.specs.Kept.{Good}
 use Rattle.rounds.specs.Machine.{count}
@@ -17,6 +20,10 @@ use Rattle.rounds.specs.Sentences.{Endpoint}
 use Rattle.rounds.proofs.Lawful.{Look, Quiet}
 use Rattle.history.specs.Driver.{driver}
 use Rattle.history.proofs.Flags.{Alike}
+
+-- the customer's "1 to 5": the display's highest endpoint
+pub one-to-five : driver Display .top ≡ 5
+one-to-five = ap (λ (t : List Row). length t - 1) rows-display
 
 -- a word below 2 ^ n has no bit from n on
 pub bit-below : (w n j : ℕ) → w < 2 ^ n → T (bit w j) → j < n
