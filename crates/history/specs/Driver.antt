@@ -28,8 +28,8 @@ use Rattle.rounds.specs.Machine as rounds
 use Rattle.rounds.specs.Machine.{Event, Machine, round, interrupt, pause, quiet}
 use Rattle.rounds.specs.Sentences.{Calls}
 
--- What happened is told by the ANSWER of a call, which its caller sees. Answered is reply 0; a refused poll, interrupt or arrival is
--- nothing.
+-- What happened is told by the answer of a call, which its caller sees. Answered is reply 0; a refused poll, interrupt or arrival is
+-- nothing. The words `still`, `since` and `between` are those of crate rounds.
 
 -- "Call an answered poll that is neither Reset, Resume nor Suspend a round." Named for reading: the bit in Data's out mask. Named as
 -- sent: the bit in its in mask. None names nothing.
@@ -44,12 +44,13 @@ abbrev pub pollEvent : PollAnswer → Event
 pollEvent (polled.Done a) = resultEvent a
 pollEvent (polled.Refused x) = quiet
 
--- an interrupt taken: what it read is what the model's interrupt registers held just before it, never the driver's flags
+-- "taken": an answered on_interrupt. What it read is what the model's interrupt registers held just before it, never the driver's flags.
+-- A packet's receive interrupt is taken by any interrupt after it arrived: its bit stands in the register until it is read.
 abbrev pub interruptEvent : Interrupted → Record → Event
 interruptEvent interrupted.Done k = interrupt (bit (k .regs .pending .tx)) (k .regs .pending .usb .suspend)
 interruptEvent (interrupted.Refused x) k = quiet
 
--- a packet arrived
+-- "the packets that arrived": answered arrivals, over the whole history
 abbrev pub arrivalEvent : Happened → ℕ → Event
 arrivalEvent happened.Done e = rounds.arrival e
 arrivalEvent (happened.Refused x) e = quiet
