@@ -1,0 +1,9 @@
+pub mod Sides
+pub mod Steps
+pub mod Accounts
+pub mod Simple
+pub mod Writing
+pub mod Reading
+pub mod Polling
+pub mod Happening
+pub mod Kept

@@ -1,0 +1,81 @@
+-- What an account of a call is, and how one is put together from the call's steps. Assumes nothing.
+use Prim.Native.Nat.{ℕ, _^_, _<_}
+use mathlib.Core.Path.{_≡_}
+use mathlib.Core.Bool.{Bool, true, false, cond}
+use mathlib.Core.List.{List, []}
+use borrow.Author.Tests.{leb-false}
+use lib.ListN.{length}
+use Rattle.board.specs.declared.Board.{Board}
+use Rattle.board.specs.Boards.{rows}
+use Rattle.regs.specs.declared.control.Csr0lSet.{Csr0lSet}
+use Rattle.regs.specs.declared.control.TxcsrlSet.{TxcsrlSet}
+use Rattle.regs.specs.declared.control.RxcsrlSet.{RxcsrlSet}
+use Rattle.stores.specs.Stores.{Log, log, modifyCsr0l, modifyTxcsrl, modifyRxcsrl}
+use Rattle.regs.specs.Control.{csr0lRead, csr0lSet, txcsrlRead, txcsrlSet, rxcsrlRead, rxcsrlSet}
+use Rattle.stores.specs.Promise.{Store, csr0l, txcsrl, rxcsrl}
+use Rattle.stores.proofs.Promises.{modify-csr0l, modify-txcsrl, modify-rxcsrl}
+use Rattle.stores.proofs.Halts.{tx-modified, rx-modified}
+use Rattle.record.specs.declared.Flags.{Flags}
+use Rattle.record.specs.declared.Record.{Record}
+use Rattle.record.specs.declared.Entry.the-variants.{Clear}
+use Rattle.record.specs.Record.{endpointsOf, entryBy}
+use Rattle.record.proofs.Rows.{none-refused}
+use Rattle.calls.proofs.Steps.{Step, one, Reached, none, then, Sane, Gentle, gentle-sane}
+use lib.Dec.{leb}
+
+-- reply 16: no "flag above bit 5", the board's own last endpoint being the highest
+abbrev pub Low : Board → Flags → Type 0
+Low b f = (f .«ep_tx» < 2 ^ length (rows b)) × (f .«ep_rx» < 2 ^ length (rows b))
+
+-- q is the record k after a call: allowed steps lead to its registers, and no flag comes above the last endpoint's
+pub record Account (May : Step → Log → Type 0) (k q : Record) : Type 0 where
+  pub list : List ℕ
+  pub last : Log
+  pub path : Reached May (log (k .regs) list 0) last
+  pub is : q .regs ≡ last .regs
+  pub flags : Low (k .regs .board) (k .irq) → Low (k .regs .board) (q .irq)
+
+-- nothing is stored
+pub left : {May : Step → Log → Type 0} {k q : Record} → q .regs ≡ k .regs → q .irq ≡ k .irq → Account May k q
+left {k = k} p f = record { list = []; last = log (k .regs) [] 0; path = none; is = p; flags = λ h. rw f h }
+
+-- the stores of g, and the flags as they were
+pub stores : {May : Step → Log → Type 0} {k q : Record} (l : List ℕ) (g : Log) → Reached May (log (k .regs) l 0) g → q .regs ≡ g .regs → q .irq ≡ k .irq
+    → Account May k q
+stores l g r p f = record { list = l; last = g; path = r; is = p; flags = λ h. rw f h }
+
+pub sane : {b : Board} {k q : Record} → Account (Gentle b) k q → Account (Sane b) k q
+sane a = record { list = a .list; last = a .last; path = gentle-sane (a .path); is = a .is; flags = a .flags }
+
+-- whichever a test decides for
+pub by-test : {A : Type 0} (P : A → Type 0) (t : Bool) {x y : A} → P x → P y → P (cond t x y)
+by-test P true p q = p
+by-test P false p q = q
+
+-- a `modify` is a store of what was read with a bit changed
+abbrev pub txModify : TxcsrlSet → Log → Store
+txModify s h = txcsrl (txcsrlSet s (txcsrlRead (h .regs)))
+
+abbrev pub rxModify : RxcsrlSet → Log → Store
+rxModify s h = rxcsrl (rxcsrlSet s (rxcsrlRead (h .regs)))
+
+abbrev pub zeroModify : Csr0lSet → Log → Store
+zeroModify s h = csr0l (csr0lSet s (csr0lRead (h .regs)))
+
+module _ {b : Board} {g h : Log} (r : Reached (Gentle b) g h) where
+  pub tx-modifies : (s : TxcsrlSet) → Reached (Gentle b) g (modifyTxcsrl s h)
+  tx-modifies s = rw (modify-txcsrl s h) (then r (one (txModify s h)) (tt, tx-modified s (h .regs)))
+
+  pub rx-modifies : (s : RxcsrlSet) → Reached (Gentle b) g (modifyRxcsrl s h)
+  rx-modifies s = rw (modify-rxcsrl s h) (then r (one (rxModify s h)) (tt, rx-modified s (h .regs)))
+
+  pub zero-modifies : (s : Csr0lSet) → Reached (Gentle b) g (modifyCsr0l s h)
+  zero-modifies s = rw (modify-csr0l s h) (then r (one (zeroModify s h)) (tt, tt))
+
+-- reply 8 is not given: the endpoint is one of the board's
+pub there : (k : Record) (e : ℕ) → leb (endpointsOf k) e ≡ false → e < length (rows (k .regs .board))
+unfolding endpointsOf
+there k e p = leb-false (length (rows (k .regs .board))) e p
+
+pub below : (k : Record) (e : ℕ) (s p : Bool) → entryBy s p (leb (endpointsOf k) e) ≡ Clear → e < length (rows (k .regs .board))
+below k e s p c = there k e (none-refused s p _ c .2)

@@ -1,0 +1,203 @@
+-- The accounts of the host's events and of `on_interrupt`: refused, or the model's own event on the registers, with the flags as they were;
+-- the interrupt reads its registers, and takes no flag above the last endpoint's.
+-- Assumes nothing.
+use Prim.Native.Nat.{ℕ, _≤_, _<_}
+use mathlib.Core.Path.{_≡_, refl, _∙_}
+use mathlib.Core.Bool.{Bool, true, false, _||_, cond}
+use mathlib.Core.List.{List}
+use native.Mathlib.Omega.{arith}
+use native.Mathlib.Nat.{le-trans}
+use native.Mathlib.Decide.{ℕ-discrete}
+use borrow.Author.Tests.{eq-eqb, ne-eqb, ltb-false}
+use lib.Dec.{eqb, ltb, lit<}
+use lib.ListN.{length}
+use Rattle.board.specs.declared.Board.{Board}
+use Rattle.board.specs.declared.Direction.{Direction}
+use Rattle.board.specs.declared.Direction.the-variants.{Out, In}
+use Rattle.board.specs.Table.{areaAt}
+use Rattle.board.specs.Boards.{rows, at-most-six, at-least-one}
+use Rattle.regs.specs.declared.Side.{Side}
+use Rattle.regs.specs.declared.Regs.{Regs}
+use Rattle.regs.specs.Registers.{sideAt}
+use Rattle.regs.specs.Control.{dropped}
+use Rattle.regs.specs.Sound.{SideOk}
+use Rattle.events.specs.Events.{received, lapsed, arrived, intrusbCleared, intrCleared}
+use Rattle.events.specs.Promise.{Event, arrival, collection, reset, suspend, resume, setupend, miss, happens, leaves, at, Kept}
+use Rattle.events.proofs.Promises.{sides, rest, usb-read, usb-rest, word-read, word-rest}
+use Rattle.record.specs.declared.Record.{Record}
+use Rattle.record.specs.declared.Entry.{Entry}
+use Rattle.record.specs.declared.Entry.the-variants.{Clear, Refused}
+use Rattle.record.specs.Record.{recordSound, entryBy, areaOf, endpointsOf}
+use Rattle.record.proofs.Rows.{none-refused}
+use Rattle.host.specs.Host as host
+use Rattle.host.proofs.Laws as laws
+use Rattle.usb_device_interrupt.specs.Interrupt.{cleared, snapshotOf, interrupted}
+use Rattle.usb_device_interrupt.proofs.Flags.{taken-low}
+use Rattle.calls.proofs.Sides.{stays-ok, alike, either, one-way, dropped-tame}
+use Rattle.calls.proofs.Steps.{Holds}
+use Rattle.calls.proofs.Accounts.{Low, there}
+
+-- reply 9 was not given: a packet that arrives fits its area
+abbrev pub Fits : Board → Event → Type 0
+Fits b (arrival e n) = n ≤ areaAt (rows b) e Out .size
+Fits b (collection e) = Unit
+Fits b reset = Unit
+Fits b suspend = Unit
+Fits b resume = Unit
+Fits b setupend = Unit
+Fits b (miss e d) = Unit
+
+pub data Happens (k q : Record) : Type 0 where
+  refused : q ≡ k → Happens k q
+  happened : (o : Event) → at o < 6 → Fits (k .regs .board) o → q .regs ≡ happens o (k .regs) → q .irq ≡ k .irq → Happens k q
+
+-- what an event leaves of a side that passes reply 16
+received-ok : (n size : ℕ) (s : Side) → n ≤ size → SideOk size (received n s)
+received-ok n size s h = record { fits = h; none = λ e. let z : _≡_ {A = ℕ} 0 1 = cc in absurd (omega arith) }
+
+module _ (b : Board) where
+  leaves-ok : (o : Event) (e : ℕ) (d : Direction) (s : Side) → Fits b o → SideOk (areaAt (rows b) e d .size) s
+      → SideOk (areaAt (rows b) e d .size) (leaves o e d s)
+  leaves-ok (arrival f n) e Out s h ok = go (ℕ-discrete e f)
+    where
+      go : Dec (e ≡ f) → SideOk (areaAt (rows b) e Out .size) (cond (eqb e f) (received n s) s)
+      go (yes p) = rw (eq-eqb e f p) (received-ok n (areaAt (rows b) e Out .size) s (rw p h))
+      go (no m) = rw (ne-eqb e f m) ok
+  leaves-ok (arrival f n) e In s h ok = stays-ok _ (either (eqb f 0) (either (eqb e 0) (alike refl refl))) ok
+  leaves-ok (collection f) e d s h ok = stays-ok _ (either (eqb e f) (one-way In d (dropped true) (dropped-tame true s))) ok
+  leaves-ok reset e d s h ok = ok
+  leaves-ok suspend e d s h ok = ok
+  leaves-ok resume e d s h ok = ok
+  leaves-ok setupend e d s h ok = ok
+  leaves-ok (miss f c) e d s h ok = stays-ok _ (either (eqb e f) (one-way c d lapsed (alike refl refl))) ok
+
+  pub happens-holds : (o : Event) (r : Regs) → at o < 6 → Fits b o → Holds b r → Holds b (happens o r)
+  happens-holds o r i h k =
+      let t = rest o r in
+      let s = k .standing in
+      record {
+        standing = record {
+          six = t .endpoints ∙ s .six;
+          board = t .board ∙ s .board;
+          selected = rw (t .selected) (s .selected);
+          address = rw (t .addressed) (s .address);
+        };
+        side = λ (e : ℕ) (d : Direction). rw (sides o r e d (s .six) i) (leaves-ok o e d _ h (k .side e d));
+      }
+
+-- the events
+module _ (k : Record) where
+  abbrev b : Board
+  b = k .regs .board
+
+  unless-refused : (o : Event) (t : Entry) → (t ≡ Clear → (at o < 6) × Fits b o) → Happens k (host.unless t k (happens o (k .regs)) .«record»)
+  unless-refused o (Refused x) f = refused refl
+  unless-refused o Clear f = let p = f refl in happened o (p .0) (p .1) refl refl
+
+  pub bus-reset : Happens k (host.busResetCall k .«record»)
+  unfolding host.busResetCall
+  bus-reset = unless-refused reset (entryBy false (recordSound k) false) (λ c. (lit< tt, tt))
+
+  pub bus-suspend : Happens k (host.suspendCall k .«record»)
+  unfolding host.suspendCall
+  bus-suspend = unless-refused suspend (entryBy false (recordSound k) false) (λ c. (lit< tt, tt))
+
+  pub bus-resume : Happens k (host.resumeCall k .«record»)
+  unfolding host.resumeCall
+  bus-resume = unless-refused resume (entryBy false (recordSound k) false) (λ c. (lit< tt, tt))
+
+  pub setup-end : Happens k (host.setupEndCall k .«record»)
+  unfolding host.setupEndCall
+  setup-end = unless-refused setupend (entryBy false (recordSound k) false) (λ c. (lit< tt, tt))
+
+  right : (x y : Bool) → (x || y) ≡ false → y ≡ false
+  right true y p = let z : _≡_ {A = ℕ} 0 1 = cc in absurd (omega arith)
+  right false y p = p
+
+  missed : (e : ℕ) (d : Direction) → Happens k (host.missCall k e d .«record»)
+  unfolding host.missCall
+  missed e d =
+      unless-refused (miss e d) (host.missRefusal k e)
+      (λ c. (le-trans (there k e (right (eqb e 0) (host.beyond k e) (none-refused false (recordSound k) _ c .2))) (at-most-six b), tt))
+
+  pub underrun : (e : ℕ) → Happens k (host.underrunCall k e .«record»)
+  unfolding host.underrunCall
+  underrun e = missed e In
+
+  pub overrun : (e : ℕ) → Happens k (host.overrunCall k e .«record»)
+  unfolding host.overrunCall
+  overrun e = missed e Out
+
+  -- arrival and collection have tests of their own after the first ones
+  arrives : (e n m : ℕ) → host.arrivalRefusal k e n m ≡ Clear → (e < 6) × (n ≤ areaAt (rows b) e Out .size)
+  unfolding host.arrivalRefusal areaOf
+  arrives e n m p =
+      let q = own (host.entryAt k e m) (ltb (areaOf k e Out .size) n) (sideAt (k .regs) e Out .ready) p in
+      (laws.admitted k e m (q .0) .below, ltb-false _ _ (q .1))
+    where
+      own : (t : Entry) (long waits : Bool) → host.arrivalBy t long waits ≡ Clear → (t ≡ Clear) × (long ≡ false)
+      own (Refused x) long waits e = laws.never e
+      own Clear true waits e = laws.never e
+      own Clear false true e = laws.never e
+      own Clear false false e = (refl, refl)
+
+  unless-arrived : (e n : ℕ) (f x : List ℕ) (t : Entry) → (t ≡ Clear → (e < 6) × (n ≤ areaAt (rows b) e Out .size))
+      → Happens k (host.unlessArrived t k f (record { event = host.done k (arrived (k .regs) e n); fifo = x }) .event .«record»)
+  unless-arrived e n f x (Refused y) h = refused refl
+  unless-arrived e n f x Clear h = let q = h refl in happened (arrival e n) (q .0) (q .1) refl refl
+
+  pub arrival-comes : (e : ℕ) (x f : List ℕ) → Happens k (host.arrivalCall k e x f .event .«record»)
+  unfolding host.arrivalCall
+  arrival-comes e x f = unless-arrived e (length x) f _ (host.arrivalRefusal k e (length x) (length f)) (arrives e (length x) (length f))
+
+  collects : (e m : ℕ) → host.collectionRefusal k e m ≡ Clear → e < 6
+  unfolding host.collectionRefusal
+  collects e m p = laws.admitted k e m (own (host.entryAt k e m) (sideAt (k .regs) e In .ready) p) .below
+    where
+      own : (t : Entry) (waits : Bool) → host.collectionBy t waits ≡ Clear → t ≡ Clear
+      own (Refused x) waits e = laws.never e
+      own Clear waits e = refl
+
+  pub collection-comes : (e : ℕ) (f : List ℕ) → Happens k (host.collectionCall k e f .«record»)
+  unfolding host.collectionCall host.collectedFrom
+  collection-comes e f = go (host.collectionRefusal k e (length f)) refl
+    where
+      go : (t : Entry) → host.collectionRefusal k e (length f) ≡ t → Happens k (host.unlessCollected t k (host.collectedFrom k e) .«record»)
+      go (Refused y) p = refused refl
+      go Clear p = happened (collection e) (collects e (length f) p) tt refl refl
+
+-- "Interrupt registers clear when read": nothing else of the registers changes
+pub cleared-side : (r : Regs) (e : ℕ) (d : Direction) → sideAt (cleared r) e d ≡ sideAt r e d
+unfolding cleared
+cleared-side r e d = word-read (intrCleared (intrusbCleared r) In) Out e d ∙ word-read (intrusbCleared r) In e d ∙ usb-read r e d
+
+pub cleared-rest : (r : Regs) → Kept r (cleared r)
+unfolding cleared
+cleared-rest r =
+    let x = usb-rest r in
+    let y = word-rest (intrusbCleared r) In in
+    let z = word-rest (intrCleared (intrusbCleared r) In) Out in
+    record {
+      board = z .board ∙ y .board ∙ x .board;
+      endpoints = z .endpoints ∙ y .endpoints ∙ x .endpoints;
+      selected = z .selected ∙ y .selected ∙ x .selected;
+      addressed = z .addressed ∙ y .addressed ∙ x .addressed;
+    }
+
+pub cleared-holds : (b : Board) (r : Regs) → Holds b r → Holds b (cleared r)
+cleared-holds b r k =
+    let t = cleared-rest r in
+    let s = k .standing in
+    record {
+      standing = record {
+        six = t .endpoints ∙ s .six;
+        board = t .board ∙ s .board;
+        selected = rw (t .selected) (s .selected);
+        address = rw (t .addressed) (s .address);
+      };
+      side = λ (e : ℕ) (d : Direction). rw (cleared-side r e d) (k .side e d);
+    }
+
+pub interrupt-low : (k : Record) → Low (k .regs .board) (k .irq) → Low (k .regs .board) (interrupted k .irq)
+unfolding interrupted endpointsOf
+interrupt-low k f = taken-low (length (rows (k .regs .board))) (snapshotOf (k .regs)) (k .irq) (at-least-one (k .regs .board)) (f .0) (f .1)

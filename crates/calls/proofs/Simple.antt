@@ -1,0 +1,164 @@
+-- The accounts of the simple calls: which stores each makes. Assumes nothing.
+use Prim.Native.Nat.{ℕ, zero, suc, _<_, _≤_}
+use mathlib.Core.Path.{_≡_, refl}
+use mathlib.Core.Bool.{Bool, true, false, not}
+use mathlib.Core.List.{List}
+use native.Mathlib.Omega.{arith}
+use borrow.Author.Tests.{leb-true}
+use lib.Dec.{eqb, leb, lit≤}
+use lib.ListN.{length, getD}
+use Rattle.laws.specs.Words.{raised}
+use Rattle.board.specs.declared.Board.{Board}
+use Rattle.board.specs.declared.Direction.{Direction}
+use Rattle.board.specs.declared.Direction.the-variants.{Out, In}
+use Rattle.board.specs.Boards.{rows}
+use Rattle.regs.specs.declared.control.Csr0lSet.the-variants.{ServicedBoth}
+use Rattle.regs.specs.declared.control.TxcsrlSet.the-variants as tx-set
+use Rattle.regs.specs.declared.control.RxcsrlSet.the-variants as rx-set
+use Rattle.regs.specs.Registers.{enabledOf}
+use Rattle.regs.specs.Control.{csr0lBits, txcsrlBits, rxcsrlBits}
+use Rattle.control_state.specs.declared.ControlState.{ControlState}
+use Rattle.alloc_endpoint.specs.declared.EndpointData.{EndpointData}
+use Rattle.alloc_endpoint.specs.declared.Wanted.{Wanted}
+use Rattle.alloc_endpoint.specs.Endpoints.{Ask, blank}
+use Rattle.stores.specs.Stores.{Log, modifyCsr0l, modifyIntre}
+use Rattle.stores.specs.Promise.{faddr, power, index, csr0l, csr0h, txcsrl, rxcsrl, iso, maxp, intrusbe, intre}
+use Rattle.stores.proofs.Promises.{modify-csr0l, modify-txcsrl, modify-rxcsrl, modify-intre}
+use Rattle.common_impl.specs.Common.{busInit, selected, stallCsr0l, writeCsrl, epTxStall, epRxStall, flushedZero, enabledZero, sized, settled, isoWritten, waits, flush, flushed, enabledOther, enabled, epTxEnable, epRxEnable, isStalled}
+use Rattle.record.specs.declared.Record.{Record}
+use Rattle.record.specs.declared.Entry.{Entry}
+use Rattle.record.specs.declared.Entry.the-variants.{Clear, Refused}
+use Rattle.record.specs.Record.{recordSound, endpointsOf, entryBy}
+use Rattle.usb_device_impl.specs.Calls.{stored, unless, short, begun, beyond, busInitCall, enableCall, txEnabled, rxEnabled, usedEnabled, enabledBelow, resetStores, idled, resetCall, addressEntry, addressCall, epStall, afterStall, setStalledCall, toldOf, unlessTold, isStalledCall, unlessAllocated, allocEp, allocEpCall}
+use Rattle.calls.proofs.Steps.{Step, one, Reached, none, then, Sane, Gentle}
+use Rattle.calls.proofs.Accounts.{Account, left, stores, by-test, txModify, rxModify, zeroModify, below}
+
+-- the tests of a call, and of one at an endpoint
+abbrev lent : Record → List ℕ → Entry
+lent k l = entryBy (short l) (recordSound k) false
+
+abbrev lentAt : Record → ℕ → List ℕ → Entry
+lentAt k e l = entryBy (short l) (recordSound k) (beyond k e)
+
+-- a call that is refused stores nothing
+module _ {May : Step → Log → Type 0} (k : Record) (l : List ℕ) where
+  unless-refused : (c : ControlState) (g : Log) (t : Entry) → (t ≡ Clear → Reached May (begun k l) g) → Account May k (unless t k l (stored k c g) .call .«record»)
+  unless-refused c g (Refused x) f = left refl refl
+  unless-refused c g Clear f = stores l g (f refl) refl refl
+
+  told-unless : (b : Bool) (g : Log) (t : Entry) → (t ≡ Clear → Reached May (begun k l) g) → Account May k (unlessTold t k l (toldOf k b g) .call .«record»)
+  told-unless b g (Refused x) f = left refl refl
+  told-unless b g Clear f = stores l g (f refl) refl refl
+
+-- the calls that leave SendStall alone
+module _ (k : Record) where
+  abbrev b : Board
+  b = k .regs .board
+
+  pub alloc-ep : (q : Ask) (w : Wanted) → Account (Gentle b) k (allocEpCall k q w .«record»)
+  unfolding allocEpCall allocEp
+  alloc-ep q w = go (entryBy false (recordSound k) false)
+    where
+      go : (t : Entry) → Account (Gentle b) k (unlessAllocated t k (allocEp k q w) .«record»)
+      go (Refused x) = left refl refl
+      go Clear = left refl refl
+
+  pub bus-init : (l : List ℕ) → Account (Gentle b) k (busInitCall k l .call .«record»)
+  unfolding busInitCall busInit
+  bus-init l =
+      unless-refused k l (k .«control_state») _ (lent k l)
+      (λ c. then (then (then none (one intrusbe) (tt, tt)) (one (intre Out 254)) (tt, tt)) (one (intre In 255)) (tt, tt))
+
+  pub enable : (l : List ℕ) → Account (Gentle b) k (enableCall k l .call .«record»)
+  unfolding enableCall
+  enable l = unless-refused k l (k .«control_state») _ (lent k l) (λ c. then none (one (faddr 0)) (lit≤ tt, tt))
+
+  pub set-device-address : (a : ℕ) (l : List ℕ) → Account (Gentle b) k (addressCall k a l .call .«record»)
+  unfolding addressCall
+  set-device-address a l =
+      unless-refused k l (k .«control_state») _ (addressEntry (lent k l) (leb a 127))
+      (λ c. then none (one (faddr a)) (leb-true a 127 (passed (lent k l) (leb a 127) c), tt))
+    where
+      passed : (t : Entry) (fits : Bool) → addressEntry t fits ≡ Clear → fits ≡ true
+      passed t true c = refl
+      passed (Refused x) false c = let z : _≡_ {A = ℕ} 0 1 = cc in absurd (omega arith)
+      passed Clear false c = let z : _≡_ {A = ℕ} 0 1 = cc in absurd (omega arith)
+
+  pub is-stalled : (e : ℕ) (d : Direction) (l : List ℕ) → Account (Gentle b) k (isStalledCall k e d l .call .«record»)
+  unfolding isStalledCall
+  is-stalled e d l = told-unless k l (isStalled d e (begun k l)) _ (lentAt k e l) (λ c. then none (one (index e)) (below k e (short l) (recordSound k) c, tt))
+
+-- stalling and the reset call, which write SendStall
+module _ (b : Board) (g : Log) where
+  abbrev Made : Log → Type 0
+  Made h = Reached (Sane b) g h
+
+  csrl-made : (d : Direction) (s t : Bool) (h : Log) → Made h → Made (writeCsrl d s t h)
+  unfolding writeCsrl
+  csrl-made Out s t h r = then r (one (rxcsrl (rxcsrlBits false false false false false s false t))) tt
+  csrl-made In s t h r = then r (one (txcsrl (txcsrlBits false false false false s false t))) tt
+
+  zero-made : (s t : Bool) (h : Log) → Made h → Made (stallCsr0l s t h)
+  unfolding stallCsr0l
+  zero-made s t h r = then r (one (csr0l (csr0lBits false false false false false s t false))) tt
+
+  stall-made : (d : Direction) (e : ℕ) (s : Bool) (h : Log) → e < length (rows b) → Made h → Made (epStall d e s h)
+  unfolding epStall epTxStall epRxStall selected
+  stall-made In e s h i r =
+      let q = then r (one (index e)) i in
+      by-test Made (eqb e 0) (zero-made s false _ q) (csrl-made In s (not s) _ q)
+  stall-made Out e s h i r =
+      let q = then r (one (index e)) i in
+      by-test Made (eqb e 0) (zero-made s s _ q) (csrl-made Out s (not s) _ q)
+
+  intre-made : (d : Direction) (e : ℕ) (h : Log) → Made h → Made (modifyIntre d e h)
+  intre-made d e h r = rw (modify-intre d e h) (then r (one (intre d (raised (enabledOf d (h .regs .enable)) e))) tt)
+
+  serviced-made : (h : Log) → Made h → Made (modifyCsr0l ServicedBoth h)
+  serviced-made h r = rw (modify-csr0l ServicedBoth h) (then r (one (zeroModify ServicedBoth h)) tt)
+
+  enabled-zero : (h : Log) → Made h → Made (enabledZero h)
+  unfolding enabledZero flushedZero
+  enabled-zero h r = then (serviced-made _ (intre-made In 0 h r)) (one csr0h) tt
+
+  flush-made : (d : Direction) (h : Log) → Made h → Made (flush d h)
+  unfolding flush
+  flush-made Out h r = rw (modify-rxcsrl rx-set.FlushFifo h) (then r (one (rxModify rx-set.FlushFifo h)) tt)
+  flush-made In h r = rw (modify-txcsrl tx-set.FlushFifo h) (then r (one (txModify tx-set.FlushFifo h)) tt)
+
+  enabled-other : (d : Direction) (e : ℕ) (t : Bool) (size : ℕ) (h : Log) → Made h → Made (enabledOther d e t size h)
+  unfolding enabledOther settled sized isoWritten flushed
+  enabled-other d e t size h r =
+      let q = csrl-made d false true _ (then (intre-made d e h r) (one (maxp d size)) tt) in
+      let p = by-test Made t (then q (one (iso d)) tt) q in
+      by-test Made (waits d _) (flush-made d _ (flush-made d _ p)) p
+
+  enabled-made : (d : Direction) (e : ℕ) (t : Bool) (size : ℕ) (h : Log) → e < length (rows b) → Made h → Made (enabled d e t size h)
+  unfolding enabled selected
+  enabled-made d e t size h i r =
+      let q = then r (one (index e)) i in
+      by-test Made (eqb e 0) (enabled-zero _ q) (enabled-other d e t size _ q)
+
+  used-made : (e : ℕ) (p : EndpointData) (h : Log) → e < length (rows b) → Made h → Made (usedEnabled e p h)
+  unfolding usedEnabled txEnabled rxEnabled epTxEnable epRxEnable
+  used-made e p h i r =
+      let q = by-test Made (p .«used_tx») (enabled-made In e _ _ h i r) r in
+      by-test Made (p .«used_rx») (enabled-made Out e _ _ _ i q) q
+
+  all-made : (es : List EndpointData) (n : ℕ) (h : Log) → n ≤ length (rows b) → Made h → Made (enabledBelow es n h)
+  unfolding enabledBelow
+  all-made es zero h i r = r
+  all-made es (suc n) h i r = used-made n (getD es n blank) _ i (all-made es n h (omega arith) r)
+
+module _ (k : Record) where
+  pub set-stalled : (e : ℕ) (d : Direction) (s : Bool) (l : List ℕ) → Account (Sane (k .regs .board)) k (setStalledCall k e d s l .call .«record»)
+  unfolding setStalledCall
+  set-stalled e d s l =
+      unless-refused k l (afterStall e s (k .«control_state»)) _ (lentAt k e l)
+      (λ c. stall-made (k .regs .board) (begun k l) d e s (begun k l) (below k e (short l) (recordSound k) c) none)
+
+  pub reset : (l : List ℕ) → Account (Sane (k .regs .board)) k (resetCall k l .call .«record»)
+  unfolding resetCall resetStores endpointsOf
+  reset l =
+      unless-refused k l (idled (k .«control_state»)) _ (lent k l)
+      (λ c. all-made (k .regs .board) (begun k l) (k .endpoints) (length (rows (k .regs .board))) _ (omega arith) (then none (one power) tt))

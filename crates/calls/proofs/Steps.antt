@@ -1,0 +1,268 @@
+-- The stores of a call, step by step, and what follows for the registers whatever the call: the account of a call says once which steps it
+-- makes, and every law about what calls keep is one induction over such accounts.
+-- Assumes nothing.
+use Prim.Native.Nat.{ℕ, _<_, _≤_}
+use mathlib.Core.Path.{_≡_, refl, sym, ap, _∙_}
+use mathlib.Core.Bool.{Bool, true, false, cond}
+use native.Mathlib.Omega.{arith}
+use native.Mathlib.Nat.{le-trans}
+use native.Mathlib.Decide.{ℕ-discrete}
+use borrow.Author.Tests.{eq-eqb, ne-eqb}
+use lib.Dec.{eqb}
+use lib.ListN.{length}
+use Rattle.board.specs.declared.Board.{Board}
+use Rattle.board.specs.declared.Direction.{Direction}
+use Rattle.board.specs.declared.Direction.the-variants.{Out, In}
+use Rattle.board.specs.Table.{areaAt}
+use Rattle.board.specs.Boards.{rows, at-most-six}
+use Rattle.regs.specs.declared.Side.{Side}
+use Rattle.regs.specs.declared.Regs.{Regs}
+use Rattle.regs.specs.Registers.{Whole, sideAt, chosen, withIso, withMaxp, withLen}
+use Rattle.regs.specs.Control.{txStored, rxStored}
+use Rattle.regs.specs.Sound.{SideOk}
+use Rattle.stores.specs.Stores.{Log}
+use Rattle.stores.specs.Promise.{Store, faddr, power, index, csr0l, csr0h, txcsrl, rxcsrl, iso, maxp, intrusbe, intre, packet, does, leaves, selects, addresses}
+use Rattle.stores.proofs.Promises.{sides, rest}
+use Rattle.stores.proofs.Halts.{SameHalts, SameStall, halts}
+use Rattle.calls.proofs.Sides.{Tame, stays-ok, same, either, one-way, alike, tx-tame, rx-tame, zero-tame, dropped-tame}
+
+-- A step is a store, or a packet with the store that sets its ready bit: between these two a length stands with its ready bit clear.
+pub data Step : Type 0 where
+  one : Store → Step
+  sent : ℕ → Store → Step
+
+abbrev pub makes : Step → Log → Log
+makes (one o) g = does o g
+makes (sent n o) g = does o (does (packet n) g)
+
+-- h is g after some steps, each of which was allowed where it was made
+pub data Reached (May : Step → Log → Type 0) (g : Log) : Log → Type 0 where
+  none : Reached May g g
+  then : {h : Log} → Reached May g h → (s : Step) → May s h → Reached May g (makes s h)
+
+pub weaken : {May Might : Step → Log → Type 0} {g h : Log} → ((s : Step) (x : Log) → May s x → Might s x) → Reached May g h → Reached Might g h
+weaken f none = none
+weaken f (then r s m) = then (weaken f r) s (f s _ m)
+
+-- what is asked of a store for reply 16's sake: a selection of the board's, an address, and no packet without its ready bit
+abbrev pub Proper : Board → Store → Type 0
+Proper b (faddr a) = a ≤ 127
+Proper b (index e) = e < length (rows b)
+Proper b (packet n) = n ≡ 0
+Proper b power = Unit
+Proper b (csr0l w) = Unit
+Proper b csr0h = Unit
+Proper b (txcsrl w) = Unit
+Proper b (rxcsrl w) = Unit
+Proper b (iso d) = Unit
+Proper b (maxp d n) = Unit
+Proper b intrusbe = Unit
+Proper b (intre d v) = Unit
+
+-- the store sets the ready bit of the selected transmit side
+abbrev pub Readies : Store → Regs → Type 0
+Readies o r = leaves o (r .index) (r .index) In (chosen r In) .ready ≡ true
+
+-- a packet that is sent fits its area
+pub record Sends (b : Board) (n : ℕ) (o : Store) (g : Log) : Type 0 where
+  pub fits : n ≤ areaAt (rows b) (g .regs .index) In .size
+  pub proper : Proper b o
+  pub readies : Readies o (does (packet n) g .regs)
+
+abbrev pub Sane : Board → Step → Log → Type 0
+Sane b (one o) g = Proper b o
+Sane b (sent n o) g = Sends b n o g
+
+-- and SendStall of the selected side is written as it stands there
+abbrev pub SameStalls : Step → Log → Type 0
+SameStalls (one o) g = SameStall o (g .regs)
+SameStalls (sent n o) g = SameStall o (does (packet n) g .regs)
+
+abbrev pub Gentle : Board → Step → Log → Type 0
+Gentle b s g = Sane b s g × SameStalls s g
+
+pub gentle-sane : {b : Board} {g h : Log} → Reached (Gentle b) g h → Reached (Sane b) g h
+gentle-sane r = weaken (λ s x m. m .0) r
+
+-- the parts of the registers that any step keeps
+pub record Same (r q : Regs) : Type 0 where
+  pub board : q .board ≡ r .board
+  pub pending : q .pending ≡ r .pending
+  pub endpoints : length (q .eps) ≡ length (r .eps)
+
+same-one : {r : Regs} (o : Store) (g : Log) → Same r (g .regs) → Same r (does o g .regs)
+same-one o g k =
+    let t = rest o g in
+    record { board = t .board ∙ k .board; pending = t .pending ∙ k .pending; endpoints = t .endpoints ∙ k .endpoints }
+
+pub keeps : {May : Step → Log → Type 0} {g h : Log} → Reached May g h → Same (g .regs) (h .regs)
+keeps none = record { board = refl; pending = refl; endpoints = refl }
+keeps (then {h} r (one o) m) = same-one o h (keeps r)
+keeps (then {h} r (sent n o) m) = same-one o (does (packet n) h) (same-one (packet n) h (keeps r))
+
+-- reply 16's register part, and that six endpoints stand in the record
+pub record Standing (b : Board) (r : Regs) : Type 0 where
+  pub six : Whole r
+  pub board : r .board ≡ b
+  pub selected : r .index < length (rows b)
+  pub address : r .faddr ≤ 127
+
+pub record Holds (b : Board) (r : Regs) : Type 0 where
+  pub standing : Standing b r
+  pub side : (e : ℕ) (d : Direction) → SideOk (areaAt (rows b) e d .size) (sideAt r e d)
+
+pub within-six : {b : Board} {r : Regs} → Standing b r → r .index < 6
+within-six {b} k = le-trans (k .selected) (at-most-six b)
+
+stands : {b : Board} (o : Store) (g : Log) → selects o (g .regs .index) < length (rows b) → addresses o (g .regs .faddr) ≤ 127 → Standing b (g .regs)
+    → Standing b (does o g .regs)
+stands o g s a k =
+    let t = rest o g in
+    record { six = t .endpoints ∙ k .six; board = t .board ∙ k .board; selected = rw (t .selected) s; address = rw (t .addressed) a }
+
+-- what a proper store selects and writes as the address, and what it leaves of a side
+module _ (b : Board) where
+  selects-low : (o : Store) (i : ℕ) → Proper b o → i < length (rows b) → selects o i < length (rows b)
+  selects-low (index e) i p h = p
+  selects-low (faddr a) i p h = h
+  selects-low power i p h = h
+  selects-low (csr0l w) i p h = h
+  selects-low csr0h i p h = h
+  selects-low (txcsrl w) i p h = h
+  selects-low (rxcsrl w) i p h = h
+  selects-low (iso d) i p h = h
+  selects-low (maxp d n) i p h = h
+  selects-low intrusbe i p h = h
+  selects-low (intre d v) i p h = h
+  selects-low (packet n) i p h = h
+
+  addresses-low : (o : Store) (a : ℕ) → Proper b o → a ≤ 127 → addresses o a ≤ 127
+  addresses-low (faddr c) a p h = p
+  addresses-low (index e) a p h = h
+  addresses-low power a p h = h
+  addresses-low (csr0l w) a p h = h
+  addresses-low csr0h a p h = h
+  addresses-low (txcsrl w) a p h = h
+  addresses-low (rxcsrl w) a p h = h
+  addresses-low (iso d) a p h = h
+  addresses-low (maxp d n) a p h = h
+  addresses-low intrusbe a p h = h
+  addresses-low (intre d v) a p h = h
+  addresses-low (packet n) a p h = h
+
+  pub leaves-tame : (o : Store) (i e : ℕ) (d : Direction) (s : Side) → Proper b o → Tame s (leaves o i e d s)
+  leaves-tame (faddr a) i e d s p = same
+  leaves-tame power i e d s p = same
+  leaves-tame (index f) i e d s p = same
+  leaves-tame (csr0l w) i e Out s p = either (eqb e 0) (dropped-tame (w .«serviced_rx_pkt_rdy») s)
+  leaves-tame (csr0l w) i e In s p = either (eqb e 0) (zero-tame w s)
+  leaves-tame csr0h i e d s p = either (eqb e 0) (dropped-tame true s)
+  leaves-tame (txcsrl w) i e d s p = either (eqb e i) (one-way In d (txStored w) (tx-tame w s))
+  leaves-tame (rxcsrl w) i e d s p = either (eqb e i) (one-way Out d (rxStored w) (rx-tame w s))
+  leaves-tame (iso c) i e d s p = either (eqb e i) (one-way c d withIso (alike refl refl))
+  leaves-tame (maxp c n) i e d s p = either (eqb e i) (one-way c d (withMaxp n) (alike refl refl))
+  leaves-tame intrusbe i e d s p = same
+  leaves-tame (intre c v) i e d s p = same
+  leaves-tame (packet n) i e d s p = rw p same
+
+-- a store alone
+holds-one : {b : Board} (o : Store) (g : Log) → Proper b o → Holds b (g .regs) → Holds b (does o g .regs)
+holds-one {b} o g p k =
+    let t = k .standing in
+    record {
+      standing = stands o g (selects-low b o _ p (t .selected)) (addresses-low b o _ p (t .address)) t;
+      side = λ (e : ℕ) (d : Direction). rw (sides o g e d (t .six) (within-six t)) (stays-ok _ (leaves-tame b o _ e d _ p) (k .side e d));
+    }
+
+-- a packet alone: it lengthens the selected transmit side, and changes no other
+packet-out : (n i e : ℕ) (s : Side) → leaves (packet n) i e Out s ≡ s
+packet-out n i e s = go (eqb n 0) (eqb e i)
+  where
+    go : (a b : Bool) → cond a s (cond b s s) ≡ s
+    go true b = refl
+    go false true = refl
+    go false false = refl
+
+packet-other : (n i e : ℕ) (s : Side) → (e ≡ i → ⊥) → leaves (packet n) i e In s ≡ s
+packet-other n i e s m = rw (ne-eqb e i m) (go (eqb n 0))
+  where
+    go : (a : Bool) → cond a s s ≡ s
+    go true = refl
+    go false = refl
+
+packet-here : (n i size : ℕ) (s : Side) → n ≤ size → s .len ≤ size → leaves (packet n) i i In s .len ≤ size
+packet-here n i size s h k = rw (eq-eqb i i refl) (go (eqb n 0))
+  where
+    go : (a : Bool) → cond a s (withLen n s) .len ≤ size
+    go true = k
+    go false = h
+
+-- a packet and its ready bit
+module _ {b : Board} (n : ℕ) (o : Store) (g : Log) (m : Sends b n o g) (k : Holds b (g .regs)) where
+  abbrev mid : Log
+  mid = does (packet n) g
+
+  abbrev first : Standing b (g .regs)
+  first = k .standing
+
+  amid : Standing b (mid .regs)
+  amid = stands (packet n) g (first .selected) (first .address) first
+
+  loaded : (e : ℕ) (d : Direction) → sideAt (mid .regs) e d ≡ leaves (packet n) (g .regs .index) e d (sideAt (g .regs) e d)
+  loaded e d = sides (packet n) g e d (first .six) (within-six first)
+
+  stored : (e : ℕ) (d : Direction) → sideAt (does o mid .regs) e d ≡ leaves o (mid .regs .index) e d (sideAt (mid .regs) e d)
+  stored e d = sides o mid e d (amid .six) (within-six amid)
+
+  tame : (e : ℕ) (d : Direction) → Tame (sideAt (mid .regs) e d) (sideAt (does o mid .regs) e d)
+  tame e d = rw (stored e d) (leaves-tame b o _ e d _ (m .proper))
+
+  -- the selected side
+  at-index : (e : ℕ) → e ≡ mid .regs .index → sideAt (does o mid .regs) e In .ready ≡ true
+  at-index e p = rw p (ap (λ (s : Side). s .ready) (stored (mid .regs .index) In) ∙ m .readies)
+
+  ready-here : (e : ℕ) → e ≡ g .regs .index → SideOk (areaAt (rows b) e In .size) (sideAt (does o mid .regs) e In)
+  ready-here e p = record {
+    fits = le-trans (tame e In .shorter) (rw (loaded e In) (rw p (packet-here n (g .regs .index) _ _ (m .fits) (k .side (g .regs .index) In .fits))));
+    none = λ q. clash (sym (at-index e (p ∙ sym (rest (packet n) g .selected))) ∙ q);
+  }
+    where
+      clash : {A : Type 0} → true ≡ false → A
+      clash e = let z : _≡_ {A = ℕ} 0 1 = cc in absurd (omega arith)
+
+  -- every other
+  elsewhere : (e : ℕ) (d : Direction) → leaves (packet n) (g .regs .index) e d (sideAt (g .regs) e d) ≡ sideAt (g .regs) e d
+      → SideOk (areaAt (rows b) e d .size) (sideAt (does o mid .regs) e d)
+  elsewhere e d p = stays-ok _ (tame e d) (rw (loaded e d ∙ p) (k .side e d))
+
+  holds-sent : Holds b (does o mid .regs)
+  holds-sent = record {
+    standing = stands o mid (selects-low b o _ (m .proper) (amid .selected)) (addresses-low b o _ (m .proper) (amid .address)) amid;
+    side = go;
+  }
+    where
+      go : (e : ℕ) (d : Direction) → SideOk (areaAt (rows b) e d .size) (sideAt (does o mid .regs) e d)
+      go e Out = elsewhere e Out (packet-out n _ e _)
+      go e In = by (ℕ-discrete e (g .regs .index))
+        where
+          by : Dec (e ≡ g .regs .index) → SideOk (areaAt (rows b) e In .size) (sideAt (does o mid .regs) e In)
+          by (yes p) = ready-here e p
+          by (no q) = elsewhere e In (packet-other n _ e _ q)
+
+pub holds : {b : Board} {g h : Log} → Reached (Sane b) g h → Holds b (g .regs) → Holds b (h .regs)
+holds none k = k
+holds (then {h} r (one o) m) k = holds-one o h m (holds r k)
+holds (then {h} r (sent n o) m) k = holds-sent n o h m (holds r k)
+
+-- SendStall of endpoints 1 to 5
+pub same-halts : {b : Board} {g h : Log} → Reached (Gentle b) g h → Holds b (g .regs) → SameHalts (g .regs) (h .regs)
+same-halts none k e d n = refl
+same-halts (then {h} r (one o) m) k e d n =
+    let t = holds (gentle-sane r) k .standing in
+    halts o h (t .six) (within-six t) (m .1) e d n ∙ same-halts r k e d n
+same-halts (then {h} r (sent x o) m) k e d n =
+    let t = holds (gentle-sane r) k in
+    let u = amid x o h (m .0) t in
+    halts o (does (packet x) h) (u .six) (within-six u) (m .1) e d n
+    ∙ halts (packet x) h (t .standing .six) (within-six (t .standing)) tt e d n
+    ∙ same-halts r k e d n

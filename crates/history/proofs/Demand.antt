@@ -1,0 +1,77 @@
+-- Demand 3 over the driver, for any board: its four sentences, and that they are not empty. Assumes nothing.
+use mathlib.Core.Path.{_≡_, refl, sym, ap, subst, _∙_}
+use mathlib.Core.Bool.{true, false}
+use mathlib.Core.List.{List}
+use Prim.Native.Nat.{ℕ}
+use native.Mathlib.Omega.{arith}
+use lib.Dec.{T}
+use Rattle.laws.specs.Words.{bit}
+use Rattle.laws.proofs.Words.{bit-zero}
+use Rattle.board.specs.declared.Board.{Board}
+use Rattle.regs.specs.declared.Pending.{Pending}
+use Rattle.regs.proofs.Sides.{fresh-rest}
+use Rattle.record.specs.declared.Record.{Record}
+use Rattle.record.specs.Record.{freshRecord, recordSound}
+use Rattle.record.proofs.Passing.{sound-record-passes}
+use Rattle.calls.specs.Calls.{Op, step}
+use Rattle.calls.proofs.Kept.{good-fresh, good-step, same-board}
+use Rattle.rounds.specs.Machine.{isAnsweredPoll, isInterrupt, arrivesAt, after}
+use Rattle.rounds.specs.Sentences.{Sentences, NotEmpty}
+use Rattle.rounds.proofs.Counts.{count-at-most}
+use Rattle.rounds.proofs.Lawful.{Lawful, good-after}
+use Rattle.rounds.proofs.Sentences.{sentences}
+use Rattle.history.specs.Driver.{event, driver, calls}
+use Rattle.history.proofs.Look.{look, Kept}
+use Rattle.history.proofs.Polls.{poll-answered}
+use Rattle.history.proofs.Arrivals.{arrival-answered}
+use Rattle.history.proofs.Interrupts.{interrupt-answered}
+use Rattle.history.proofs.Steps.{does, one-place}
+
+module _ (b : Board) where
+  pub kept-fresh : Kept b (freshRecord b)
+  unfolding freshRecord
+  kept-fresh = record { good = good-fresh b; board = fresh-rest b .0 }
+
+  pub kept-step : (k : Record) (o : Op) → Kept b k → Kept b (step k o)
+  kept-step k o g = record { good = good-step k o (g .good); board = same-board k o ∙ g .board }
+
+  none-due : (j : ℕ) → bit (freshRecord b .regs .pending .rx) j ≡ false
+  unfolding freshRecord
+  none-due j = ap (λ (p : Pending). bit (p .rx) j) (fresh-rest b .3) ∙ bit-zero j
+
+  pub lawful : Lawful (driver b) (Kept b) (look b)
+  unfolding freshRecord
+  lawful =
+      record {
+        good-fresh = kept-fresh;
+        good-step = kept-step;
+        does = λ k o g. does b k g o;
+        one-place = λ k o e g. one-place k o e;
+        two = λ k. omega (arith, count-at-most (k .irq .reset), count-at-most (k .irq .resume));
+        flag-fresh = λ j ep. bit-zero j;
+        due-fresh = λ j ep. none-due j;
+        sent-fresh = λ j ep. bit-zero j;
+        awake-fresh = refl;
+      }
+
+  pub demand-3 : Sentences (driver b)
+  demand-3 = sentences lawful
+
+  pub not-empty : NotEmpty (driver b) (calls b)
+  not-empty =
+      record {
+        good = λ h. passes h;
+        polled = λ h o q.
+            let k = after (driver b) h in
+            subst (λ (o : Op). T (isAnsweredPoll (event k o))) (sym (q .is)) (poll-answered b k (good-after lawful h) (q .list) (q .lent));
+        taken = λ h o q.
+            let k = after (driver b) h in
+            subst (λ (o : Op). T (isInterrupt (event k o))) (sym q) (interrupt-answered b k (good-after lawful h));
+        arrived = λ h e o q none.
+            let k = after (driver b) h in
+            subst (λ (o : Op). T (arrivesAt e (event k o))) (sym (q .is))
+            (arrival-answered k e (q .bytes) (q .fifo) (passes h) (q .there) (q .fits) (q .lent) none);
+      }
+    where
+      passes : (h : List Op) → recordSound (after (driver b) h) ≡ true
+      passes h = sound-record-passes (after (driver b) h) (good-after lawful h .good .sound)

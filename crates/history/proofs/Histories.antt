@@ -1,0 +1,133 @@
+-- A history of the display for each sentence, computed: the one file of this crate that unfolds the register model. Assumes nothing.
+use mathlib.Core.Path.{_≡_, refl, ap, _∙_}
+use mathlib.Core.Bool.{Bool, true, false}
+use mathlib.Core.List.{List, [], _∷_, _++_}
+use Rattle.laws.specs.Words.{bit, raised, clear, bitsBelow, setBits}
+use Rattle.regs.specs.Registers.{freshRegs, sideAt, withSide}
+use Rattle.regs.specs.Control.{csr0lRead, txcsrlOf, rxcsrlOf, txStored, rxStored, txcsrlSet, rxcsrlSet, dropped}
+use Rattle.stores.specs.Stores.{listed, noted, writeIndex, writeTxcsrl, writeRxcsrl, modifyTxcsrl, modifyRxcsrl, writePacket}
+use Rattle.events.specs.Events.{interrupting, waitingAt, arrived, collected, busReset, busResume, intrusbCleared, intrCleared}
+use Rattle.common_impl.specs.Common.{underRunCleared, overRunCleared, repaired, numbers, repairedBelow}
+use Rattle.record.specs.Record.{freshRecord}
+use Rattle.peek.specs.Peek.{txPktRdy, rxPktRdy, rxCount}
+use Rattle.usb_device_write.specs.Write as write
+use Rattle.usb_device_read.specs.Read as read
+use Rattle.usb_device_interrupt.specs.Interrupt.{snapshotOf, cleared, busTaken, raisedIf, endpointTaken, endpointsTaken, taken}
+use Rattle.usb_device_poll.specs.Round.{endpointZero, acceptedBy, acceptStep, readyAt, drained, visit, walked, told}
+use Rattle.usb_device_poll.specs.Poll.{ended, walkedOn, acceptedOn, roundOut, pollLogged}
+use Rattle.host.specs.Host.{collectedFrom}
+use Rattle.rounds.specs.Machine.{Event, round, names, namesSent, isRound, after, falseNamings, arrivalsAbove}
+use Rattle.rounds.specs.Sentences.{StillWaits, NextRound, ThreePolls}
+use Rattle.history.proofs.Sample.{Do, arrive, take, put, collect, reset, resume, irq, poll, op, ops, sample, M, at-start, event-of, after-all, false-of, above-of, still-waits, next-round, three-polls}
+
+-- 1. Packets at 1 and 5, of which 1 is read: 5 waits through a round, and the next names it and not 1.
+abbrev one-read : List Do
+one-read = irq ∷ take 1 ∷ poll ∷ []
+
+abbrev named : List Do
+named = arrive 1 ∷ arrive 5 ∷ one-read
+
+-- 2. Packets at 1 and 5, both read: the first round names 1 with nothing waiting, and one packet arrived above it. The bound is reached,
+-- and the next round names nothing (document 01's P14).
+abbrev both-read : List Do
+both-read = arrive 1 ∷ arrive 5 ∷ irq ∷ take 1 ∷ take 5 ∷ []
+
+-- 3. 1 was sent before the last round, 5 since: the next round names 5 and not 1.
+abbrev before : List Do
+before = put 1 ∷ collect 1 ∷ irq ∷ poll ∷ []
+
+abbrev since : List Do
+since = put 5 ∷ collect 5 ∷ irq ∷ []
+
+-- 4. Reset and resume taken: of three polls the second is no round yet (P16).
+abbrev woken : List Do
+woken = reset ∷ resume ∷ irq ∷ []
+
+-- what a poll after a history gives
+abbrev pub given : List Do → Event
+given h = M .event (after M (ops h)) (op poll)
+
+abbrev says : List Do → Event
+says h = sample .event (after sample h) poll
+
+given-is : (h : List Do) → given h ≡ says h
+given-is h = event-of (after-all at-start h) poll
+
+record Computed : Type 0 where
+  waits : StillWaits sample 5 (arrive 1 ∷ []) (arrive 5) one-read poll
+  reads-5 : names 5 (says named) ≡ true
+  reads-not-1 : names 1 (says named) ≡ false
+  falsely : names 1 (says both-read) ≡ true
+  then-none : says (both-read ++ poll ∷ []) ≡ round (λ e. false) (λ e. false)
+  once : falseNamings sample 1 (sample .fresh) (both-read ++ poll ∷ poll ∷ []) ≡ 1
+  above : arrivalsAbove sample 1 (sample .fresh) (both-read ++ poll ∷ poll ∷ []) ≡ 1
+  next : NextRound sample before since poll
+  sent-5 : namesSent 5 (says (before ++ since)) ≡ true
+  sent-not-1 : namesSent 1 (says (before ++ since)) ≡ false
+  sent-1 : namesSent 1 (says (put 1 ∷ collect 1 ∷ irq ∷ [])) ≡ true
+  polls : ThreePolls sample woken poll [] poll [] poll
+  second : isRound (says (woken ++ poll ∷ [])) ≡ false
+
+computed : Computed
+unfolding bit raised clear bitsBelow setBits freshRegs sideAt withSide csr0lRead txcsrlOf rxcsrlOf txStored rxStored txcsrlSet rxcsrlSet dropped listed noted writeIndex writeTxcsrl writeRxcsrl modifyTxcsrl modifyRxcsrl writePacket interrupting waitingAt arrived collected busReset busResume intrusbCleared intrCleared underRunCleared overRunCleared repaired numbers repairedBelow freshRecord txPktRdy rxPktRdy rxCount write.ownTestsAt write.notWritable write.taken write.loaded write.sent write.sentOther read.ownTestsAt read.notReadable read.notSetup read.taken read.got read.readOther collectedFrom snapshotOf cleared busTaken raisedIf endpointTaken endpointsTaken taken endpointZero acceptedBy acceptStep readyAt drained visit walked told ended walkedOn acceptedOn roundOut pollLogged
+computed =
+    record {
+      waits = record { arrived = tt; still = (tt, (tt, (tt, tt))); taken = tt; polled = tt };
+      reads-5 = refl;
+      reads-not-1 = refl;
+      falsely = refl;
+      then-none = refl;
+      once = refl;
+      above = refl;
+      next = record { since = tt; between = tt; polled = tt };
+      sent-5 = refl;
+      sent-not-1 = refl;
+      sent-1 = refl;
+      polls = record { awake = tt; first = tt; between = tt; second = tt; between′ = tt; third = tt };
+      second = refl;
+    }
+
+-- the driver's own: what a test says of the poll after a history
+told-by : (test : Event → Bool) (h : List Do) (b : Bool) → test (says h) ≡ b → test (given h) ≡ b
+told-by test h b p = ap test (given-is h) ∙ p
+
+-- 1.
+pub waits-5 : StillWaits M 5 (ops (arrive 1 ∷ [])) (op (arrive 5)) (ops one-read) (op poll)
+waits-5 = still-waits 5 (arrive 1 ∷ []) (arrive 5) one-read poll (computed .waits)
+
+pub named-5 : names 5 (given named) ≡ true
+named-5 = told-by (names 5) named true (computed .reads-5)
+
+pub not-named-1 : names 1 (given named) ≡ false
+not-named-1 = told-by (names 1) named false (computed .reads-not-1)
+
+-- 2.
+pub falsely-named-1 : names 1 (given both-read) ≡ true
+falsely-named-1 = told-by (names 1) both-read true (computed .falsely)
+
+pub then-none : given (both-read ++ poll ∷ []) ≡ round (λ e. false) (λ e. false)
+then-none = given-is (both-read ++ poll ∷ []) ∙ computed .then-none
+
+pub bound-reached : (falseNamings M 1 (M .fresh) (ops (both-read ++ poll ∷ poll ∷ [])) ≡ 1) × (arrivalsAbove M 1 (M .fresh) (ops (both-read ++ poll ∷ poll ∷ [])) ≡ 1)
+bound-reached =
+    (false-of 1 at-start (both-read ++ poll ∷ poll ∷ []) ∙ computed .once, above-of 1 at-start (both-read ++ poll ∷ poll ∷ []) ∙ computed .above)
+
+-- 3.
+pub next : NextRound M (ops before) (ops since) (op poll)
+next = next-round before since poll (computed .next)
+
+pub sent-1 : namesSent 1 (given (put 1 ∷ collect 1 ∷ irq ∷ [])) ≡ true
+sent-1 = told-by (namesSent 1) (put 1 ∷ collect 1 ∷ irq ∷ []) true (computed .sent-1)
+
+pub sent-5 : namesSent 5 (given (before ++ since)) ≡ true
+sent-5 = told-by (namesSent 5) (before ++ since) true (computed .sent-5)
+
+pub not-sent-1 : namesSent 1 (given (before ++ since)) ≡ false
+not-sent-1 = told-by (namesSent 1) (before ++ since) false (computed .sent-not-1)
+
+-- 4.
+pub polls : ThreePolls M (ops woken) (op poll) [] (op poll) [] (op poll)
+polls = three-polls woken poll [] poll [] poll (computed .polls)
+
+pub second-is-none : isRound (given (woken ++ poll ∷ [])) ≡ false
+second-is-none = told-by isRound (woken ++ poll ∷ []) false (computed .second)

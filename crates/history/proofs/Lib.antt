@@ -1,0 +1,13 @@
+pub mod Flags
+pub mod Taken
+pub mod Serviced
+pub mod Ready
+pub mod Look
+pub mod Polls
+pub mod Arrivals
+pub mod Interrupts
+pub mod Calm
+pub mod Steps
+pub mod Demand
+pub mod Sample
+pub mod Histories

@@ -1,0 +1,76 @@
+-- What the step laws look at in the driver's record, and what every record of a history is. Assumes nothing.
+use mathlib.Core.Path.{_≡_, ap, subst}
+use mathlib.Core.List.{List}
+use Prim.Native.Nat.{ℕ, _+_, _-_, _%_, _/_, _^_, _≤_, _<_}
+use native.Mathlib.Nat.{le-trans, lt-of-not-le, div-eq-of-lt}
+use native.Mathlib.Omega.{arith}
+use native.Mathlib.Decide.{decLe}
+use lib.Dec.{T, eqb}
+use lib.Pow.{pow-mono}
+use lib.ListN.{length}
+use Rattle.laws.specs.Words.{bit}
+use Rattle.board.specs.declared.Board.{Board}
+use Rattle.board.specs.declared.Board.the-variants.{Display}
+use Rattle.board.specs.declared.Row.{Row}
+use Rattle.board.specs.Boards.{rows, rows-display, at-most-six, at-least-one}
+use Rattle.record.specs.declared.Record.{Record}
+use Rattle.calls.specs.Kept.{Good}
+use Rattle.rounds.specs.Machine.{count}
+use Rattle.rounds.specs.Sentences.{Endpoint}
+use Rattle.rounds.proofs.Lawful.{Look, Quiet}
+use Rattle.history.specs.Driver.{driver}
+use Rattle.history.proofs.Flags.{Alike}
+
+-- the customer's "1 to 5": the display's highest endpoint
+pub one-to-five : driver Display .top ≡ 5
+one-to-five = ap (λ (t : List Row). length t - 1) rows-display
+
+-- a word below 2 ^ n has no bit from n on
+pub bit-below : (w n j : ℕ) → w < 2 ^ n → T (bit w j) → j < n
+unfolding bit
+bit-below w n j h t = go (decLe n j)
+  where
+    go : Dec (n ≤ j) → j < n
+    go (yes le) =
+        let none : w / 2 ^ j ≡ 0 = div-eq-of-lt (le-trans h (pow-mono le)) in
+        absurd (subst (λ (x : ℕ). T (eqb (x % 2) 1)) none t)
+    go (no lt) = lt-of-not-le lt
+
+module _ (b : Board) where
+  abbrev pub look : Look (driver b)
+  look =
+      record {
+        flag = λ k. bit (k .irq .«ep_rx»);
+        due = λ k. bit (k .regs .pending .rx);
+        sent = λ k. bit (k .irq .«ep_tx»);
+        up = λ k. count (k .irq .reset) + count (k .irq .resume);
+        asleep = λ k. k .irq .suspend;
+      }
+
+  -- it passes reply 16's test, has six endpoints' registers, and is of the board that it was made for
+  pub record Kept (k : Record) : Type 0 where
+    pub good : Good k
+    pub board : k .regs .board ≡ b
+
+  -- an endpoint of the board has its bit in a word of six
+  pub below : (j : ℕ) → Endpoint (driver b) j → j < length (rows b)
+  below j ep = omega (arith, ep .high, at-least-one b)
+
+  pub low : (j : ℕ) → Endpoint (driver b) j → j < 6
+  low j ep = le-trans (below j ep) (at-most-six b)
+
+  module _ (k : Record) (g : Kept k) where
+    pub receive-bound : k .irq .«ep_rx» < 2 ^ length (rows b)
+    receive-bound = rw (← g .board) (g .good .sound .rx)
+
+    pub small : k .irq .«ep_rx» < 64
+    small = le-trans receive-bound (pow-mono (at-most-six b))
+
+  -- a step that changes no flag but endpoint 0's and takes no receive interrupt
+  pub calm : (k t : Record) → Alike (k .irq) (t .irq) → t .regs .pending .rx ≡ k .regs .pending .rx → Quiet look k t
+  calm k t a due =
+      record {
+        receive = record { flag = λ j ep. a .rx j (ep .low) (low j ep); due = λ j ep. ap (λ (w : ℕ). bit w j) due };
+        sent = λ j ep. a .tx j (ep .low) (low j ep);
+        bus = record { up = omega (arith, ap count (a .reset), ap count (a .resume)); asleep = a .suspend };
+      }

@@ -1,0 +1,194 @@
+-- What a poll does: refused, a pause, or a round. Assumes nothing.
+use mathlib.Core.Path.{_≡_, refl, sym, ap, subst, _∙_}
+use mathlib.Core.Bool.{Bool, true, false, not, cond, _||_, true≢false}
+use mathlib.Core.List.{List}
+use Prim.Native.Nat.{ℕ, _≤_, _<_}
+use native.Mathlib.Nat.{le-trans}
+use native.Mathlib.Omega.{arith}
+use lib.Dec.{T, not-T, eqb, ltb}
+use lib.ListN.{length}
+use borrow.Author.Tests.{eqb-true, le-ltb}
+use Rattle.laws.specs.Words.{bit}
+use Rattle.laws.proofs.Words.{bit-zero}
+use Rattle.board.specs.declared.Board.{Board}
+use Rattle.board.specs.declared.Direction.the-variants.{Out}
+use Rattle.board.specs.Boards.{rows, at-most-six, at-least-one}
+use Rattle.regs.specs.Registers.{sideAt}
+use Rattle.stores.specs.Stores.{Log, log}
+use Rattle.common_impl.specs.Common.{checkOverrun}
+use Rattle.record.specs.declared.Flags.{Flags}
+use Rattle.record.specs.declared.Record.{Record}
+use Rattle.record.specs.declared.Refusal.the-variants.{TooLittleLent}
+use Rattle.record.specs.declared.Entry.the-variants as entry
+use Rattle.record.specs.Record.{entryBy}
+use Rattle.record.proofs.Passing.{sound-record-passes}
+use Rattle.usb_device_poll.specs.Round.{withTx, withRx, endpointZero, acceptStep, walked, masks, told}
+use Rattle.usb_device_poll.specs.declared.PollResult.the-variants.{None, Data}
+use Rattle.usb_device_poll.specs.Poll.{PollOutcome, ended, walkedOn, acceptedOn, roundOut, pollBy, pollLogged, pollServed, pollWhen, pollCall}
+use Rattle.usb_device_poll.proofs.Drained.{leftBy, none-new, ready-stays, false-naming}
+use Rattle.rounds.specs.Machine.{Event, count, isAnsweredPoll}
+use Rattle.rounds.specs.Machine as rounds
+use Rattle.rounds.proofs.Lawful.{PutDown, Rounds, Pauses, Does, unchanged}
+use Rattle.history.specs.Driver.{resultEvent, pollEvent, driver}
+use Rattle.history.proofs.Flags.{Alike, then, zero-step, accept-step}
+use Rattle.history.proofs.Ready.{Waits, overrun-checked, zero-served, walk-leaves}
+use Rattle.history.proofs.Look.{look, Kept, bit-below, low, receive-bound, small}
+
+-- None is given when all masks are 0, so that it names what its masks would
+none-named : (w : ℕ) → w ≡ 0 → (λ (e : ℕ). false) ≡ bit w
+none-named w z = λ i e. (sym (bit-zero e) ∙ ap (λ (x : ℕ). bit x e) (sym z)) i
+
+told-names : (out sent : ℕ) (setup : Bool) → resultEvent (told out sent setup) ≡ rounds.round (bit out) (bit sent)
+unfolding told
+told-names out sent setup = go (eqb sent 0) (eqb out 0) setup refl refl
+  where
+    go : (a b c : Bool) → eqb sent 0 ≡ a → eqb out 0 ≡ b
+        → resultEvent (cond (not a || not b || c) (Data (masks out sent setup)) None) ≡ rounds.round (bit out) (bit sent)
+    go false b c p q = refl
+    go true false c p q = refl
+    go true true true p q = refl
+    go true true false p q = λ i. rounds.round (none-named out (eqb-true out 0 q) i) (none-named sent (eqb-true sent 0 p) i)
+
+module _ (b : Board) (k : Record) (kept : Kept b k) where
+  none-waits : (e : ℕ) → sideAt (k .regs) e Out .ready ≡ false → sideAt (k .regs) e Out .len ≡ 0
+  none-waits e = kept .good .sound .regs .side e Out .none
+
+  at-start : (l : List ℕ) → Waits (k .regs) none-waits (log (k .regs) l 0)
+  at-start l =
+      record {
+        six = kept .good .six;
+        low = le-trans (kept .good .sound .regs .selected) (at-most-six (k .regs .board));
+        packet = λ e. record { ready = refl; len = refl };
+      }
+
+  abbrev ready : ℕ → Bool
+  ready e = sideAt (k .regs) e Out .ready
+
+  -- the end of a round, with the flags f as the walk found them
+  module _ (f : Flags) (a : Alike (k .irq) f) (r : k .irq .reset ≡ false) (m : k .irq .resume ≡ false) where
+    abbrev left : ℕ
+    left = leftBy (f .«ep_rx») ready
+
+    lower : (i : ℕ) → i ≤ driver b .top → i < 6
+    lower i h = omega (arith, at-least-one b, at-most-six b)
+
+    flagged : (j : ℕ) → 1 ≤ j → j < 6 → T (bit (f .«ep_rx») j) → T (bit (k .irq .«ep_rx») j)
+    flagged j h l t = subst T (a .rx j h l) t
+
+    rounded : (t : Record) → t .irq ≡ withRx (withTx f 0) left → t .regs .pending .rx ≡ k .regs .pending .rx
+        → Rounds (look b) (bit left) (bit (f .«ep_tx»)) k t
+    rounded t is due =
+        record {
+          named = λ i h. sym (at i);
+          none-new = λ j ep x. flagged j (ep .low) (low b j ep) (none-new (f .«ep_rx») ready (a .small) j (low b j ep) (subst T (at j) x));
+          kept = λ j ep w x.
+              subst T (sym (at j)) (ready-stays (f .«ep_rx») ready (a .small) j (low b j ep) w (subst T (sym (a .rx j (ep .low) (low b j ep))) x));
+          mistaken = λ i h x w. higher i (false-naming (f .«ep_rx») ready (a .small) i (lower i h) (subst T (at i) x) w);
+          due = λ j ep. ap (λ (w : ℕ). bit w j) due;
+          sent = λ j ep. a .tx j (ep .low) (low b j ep);
+          wiped = λ j ep. ap (λ (x : Flags). bit (x .«ep_tx») j) is ∙ bit-zero j;
+          none-up = omega (arith, ap count r, ap count m);
+          bus =
+              record {
+                up = omega (arith, ap (λ (x : Flags). count (x .reset)) is, ap (λ (x : Flags). count (x .resume)) is, ap count (a .reset), ap count (a .resume));
+                asleep = ap (λ (x : Flags). x .suspend) is ∙ a .suspend;
+              };
+        }
+      where
+        at : (j : ℕ) → bit (t .irq .«ep_rx») j ≡ bit left j
+        at j = ap (λ (x : Flags). bit (x .«ep_rx») j) is
+
+        higher : (i : ℕ) → (j : ℕ) × (i < j) × (j < 6) × T (bit (f .«ep_rx») j) × (T (bit left j) → ⊥) → PutDown (look b) i k t
+        higher i (j, above, six, was, gone) =
+            let w = flagged j (omega arith) six was in
+            let h = bit-below (k .irq .«ep_rx») (length (rows b)) j (receive-bound b k kept) w in
+            record {
+              at = j;
+              above = above;
+              high = omega arith;
+              was = w;
+              down = not-T (bit (t .irq .«ep_rx») j) (λ x. gone (subst T (at j) x));
+            }
+
+  module _ (l : List ℕ) where
+    abbrev checked : Log
+    checked = checkOverrun (log (k .regs) l 0)
+
+    -- what a poll does, of any outcome
+    abbrev PollDoes : PollOutcome → Type 0
+    PollDoes o = Does (look b) k (pollEvent (o .result .answer)) (o .result .«record»)
+
+    abbrev SameDue : PollOutcome → Type 0
+    SameDue o = o .result .«record» .regs .pending .rx ≡ k .regs .pending .rx
+
+    -- endpoint 0's step, the Accepted step, and what the walk then leaves
+    in-round : k .irq .reset ≡ false → k .irq .resume ≡ false → SameDue (roundOut k checked) → PollDoes (roundOut k checked)
+    unfolding roundOut acceptedOn walkedOn ended
+    in-round r m due =
+        let o = endpointZero checked (k .«control_state») (k .irq) in
+        let z = zero-step checked (k .«control_state») (k .irq) (small b k kept) in
+        let f = acceptStep (o .control) (o .irq) .irq in
+        let a = then z (accept-step (o .control) (o .irq) (z .small)) in
+        let w = zero-served (k .regs) none-waits (k .«control_state») (k .irq) checked (overrun-checked (k .regs) none-waits (log (k .regs) l 0) (at-start l)) in
+        let left = walk-leaves (k .regs) none-waits (f .«ep_rx») (o .log) w in
+        let t = roundOut k checked .result .«record» in
+        subst (λ (v : Event). Does (look b) k v t)
+        (sym (told-names (walked (f .«ep_rx») (o .log) .out) (f .«ep_tx») (o .setup) ∙ ap (λ (x : ℕ). rounds.round (bit x) (bit (f .«ep_tx»))) left))
+        (rounded f a r m t (ap (withRx (withTx f 0)) left) due)
+
+    -- a pause puts down one of the flags of reset and resume, or the suspend flag is up
+    paused : (t : Record) → t .irq .«ep_rx» ≡ k .irq .«ep_rx» → t .irq .«ep_tx» ≡ k .irq .«ep_tx» → t .irq .suspend ≡ k .irq .suspend
+        → t .regs .pending .rx ≡ k .regs .pending .rx → look b .up t ≤ look b .up k → (k .irq .suspend ≡ false → look b .up t < look b .up k)
+        → Pauses (look b) k t
+    paused t rx tx asleep due up less =
+        record {
+          same =
+              record {
+                receive = record { flag = λ j ep. ap (λ (w : ℕ). bit w j) rx; due = λ j ep. ap (λ (w : ℕ). bit w j) due };
+                sent = λ j ep. ap (λ (w : ℕ). bit w j) tx;
+                bus = record { up = up; asleep = asleep };
+              };
+          less = less;
+        }
+
+    -- the outcome by what is tested: too short a list, then the flags of reset, resume and suspend
+    abbrev pollOf : Bool → Bool → Bool → Bool → PollOutcome
+    pollOf true r m u = pollWhen (entry.Refused TooLittleLent) k l
+    pollOf false r m u = pollBy r m u k checked
+
+    poll-is : (short r m u : Bool) → ltb (length l) 384 ≡ short → k .irq .reset ≡ r → k .irq .resume ≡ m → k .irq .suspend ≡ u
+        → pollCall k l ≡ pollOf short r m u
+    unfolding pollCall pollServed pollLogged
+    poll-is true r m u es er em eu = λ i. pollWhen (entryBy (es i) (sound-record-passes k (kept .good .sound) i) false) k l
+    poll-is false r m u es er em eu =
+        (λ i. pollWhen (entryBy (es i) (sound-record-passes k (kept .good .sound) i) false) k l) ∙ (λ i. pollBy (er i) (em i) (eu i) k checked)
+
+    by-tests : (short r m u : Bool) → k .irq .reset ≡ r → k .irq .resume ≡ m → k .irq .suspend ≡ u → SameDue (pollOf short r m u) → PollDoes (pollOf short r m u)
+    by-tests true r m u er em eu due = unchanged (look b) k k refl refl refl refl refl
+    by-tests false true m u er em eu due =
+        let c = ap count er in paused (pollBy true m u k checked .result .«record») refl refl refl due (omega (arith, c)) (λ n. omega (arith, c))
+    by-tests false false true u er em eu due =
+        let c = ap count em in paused (pollBy false true u k checked .result .«record») refl refl refl due (omega (arith, c)) (λ n. omega (arith, c))
+    by-tests false false false true er em eu due =
+        paused (pollBy false false true k checked .result .«record») refl refl refl due (omega arith) (λ n. absurd (true≢false (sym eu ∙ n)))
+    by-tests false false false false er em eu due = in-round er em due
+
+    -- no store of a poll touches the interrupt registers: `due` is what is known of every call that stores
+    pub poll-does : SameDue (pollCall k l) → PollDoes (pollCall k l)
+    poll-does due =
+        let is = poll-is (ltb (length l) 384) (k .irq .reset) (k .irq .resume) (k .irq .suspend) refl refl refl refl in
+        subst PollDoes (sym is)
+        (by-tests (ltb (length l) 384) (k .irq .reset) (k .irq .resume) (k .irq .suspend) refl refl refl (subst SameDue is due))
+
+    -- a poll that is lent enough is answered
+    told-answered : (r m u : Bool) → T (isAnsweredPoll (pollEvent (pollOf false r m u .result .answer)))
+    unfolding roundOut acceptedOn walkedOn ended
+    told-answered true m u = tt
+    told-answered false true u = tt
+    told-answered false false true = tt
+    told-answered false false false = subst (λ (v : Event). T (isAnsweredPoll v)) (sym (told-names _ _ _)) tt
+
+    pub poll-answered : 384 ≤ length l → T (isAnsweredPoll (pollEvent (pollCall k l .result .answer)))
+    poll-answered h =
+        let is = poll-is false (k .irq .reset) (k .irq .resume) (k .irq .suspend) (le-ltb (length l) 384 h) refl refl refl in
+        subst (λ (o : PollOutcome). T (isAnsweredPoll (pollEvent (o .result .answer)))) (sym is) (told-answered (k .irq .reset) (k .irq .resume) (k .irq .suspend))

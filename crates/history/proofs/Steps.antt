@@ -1,0 +1,117 @@
+-- Every operation keeps the step laws: the driver is lawful. Assumes nothing.
+use mathlib.Core.Path.{_≡_, refl, sym, ap, subst, _∙_}
+use mathlib.Core.Bool.{false, not}
+use Prim.Native.Nat.{ℕ}
+use lib.Dec.{T}
+use lib.ListN.{length}
+use Rattle.board.specs.declared.Board.{Board}
+use Rattle.board.specs.declared.Direction.the-variants.{Out, In}
+use Rattle.regs.specs.declared.Pending.{Pending}
+use Rattle.events.specs.Promise as events
+use Rattle.events.specs.Promise.{happens, raises}
+use Rattle.events.proofs.Promises.{pending}
+use Rattle.record.specs.declared.Flags.{Flags}
+use Rattle.record.specs.declared.Record.{Record}
+use Rattle.record.specs.declared.Entry.{Entry}
+use Rattle.record.specs.declared.Entry.the-variants.{Clear, Refused}
+use Rattle.record.specs.Record.{entryBy, recordSound}
+use Rattle.usb_device_interrupt.specs.declared.Interrupted.{Interrupted}
+use Rattle.usb_device_interrupt.specs.declared.Interrupted.the-variants as interrupted
+use Rattle.usb_device_interrupt.specs.Interrupt.{interruptCall}
+use Rattle.usb_device_poll.specs.declared.PollResult.the-variants.{None, Data, Reset, Resume, Suspend}
+use Rattle.usb_device_poll.specs.declared.PollAnswer.{PollAnswer}
+use Rattle.usb_device_poll.specs.declared.PollAnswer.the-variants as polled
+use Rattle.usb_device_poll.specs.Poll.{pollCall}
+use Rattle.host.specs.Host as host
+use Rattle.calls.specs.Calls.{Op, allocEp, busInit, enable, reset, setDeviceAddress, write, read, setStalled, isStalled, poll, onInterrupt, forceReset, arrival, collection, busReset, suspend, resume, setupEnd, underrun, overrun, step}
+use Rattle.calls.specs.Kept.{Stores}
+use Rattle.calls.proofs.Kept.{same-pending}
+use Rattle.rounds.specs.Machine.{arrivesAt}
+use Rattle.rounds.proofs.Lawful.{Quiet, Does, unchanged}
+use Rattle.history.specs.Driver.{pollEvent, interruptEvent, event, waiting}
+use Rattle.history.proofs.Flags.{Alike, same}
+use Rattle.history.proofs.Look.{look, Kept, small, calm}
+use Rattle.history.proofs.Polls.{poll-does}
+use Rattle.history.proofs.Arrivals.{arrival-does, one-arrival}
+use Rattle.history.proofs.Interrupts.{interrupt-does}
+use Rattle.history.proofs.Calm.{alloc-ep-call, bus-init-call, enable-call, reset-call, address-call, set-stalled-call, is-stalled-call, read-call, write-call}
+
+-- no poll and no interrupt is an arrival
+poll-brings-none : (i : ℕ) (a : PollAnswer) → T (not (arrivesAt i (pollEvent a)))
+poll-brings-none i (polled.Done None) = tt
+poll-brings-none i (polled.Done (Data m)) = tt
+poll-brings-none i (polled.Done Reset) = tt
+poll-brings-none i (polled.Done Resume) = tt
+poll-brings-none i (polled.Done Suspend) = tt
+poll-brings-none i (polled.Refused x) = tt
+
+interrupt-brings-none : (i : ℕ) (a : Interrupted) (k : Record) → T (not (arrivesAt i (interruptEvent a k)))
+interrupt-brings-none i interrupted.Done k = tt
+interrupt-brings-none i (interrupted.Refused x) k = tt
+
+pub one-place : (k : Record) (o : Op) (i : ℕ) → T (waiting k i) → T (not (arrivesAt i (event k o)))
+one-place k (poll l) i w = poll-brings-none i (pollCall k l .result .answer)
+one-place k onInterrupt i w = interrupt-brings-none i (interruptCall k .answer) k
+one-place k (arrival e bytes f) i w = one-arrival k e bytes f i w
+one-place k (allocEp q v) i w = tt
+one-place k (busInit l) i w = tt
+one-place k (enable l) i w = tt
+one-place k (reset l) i w = tt
+one-place k (setDeviceAddress a l) i w = tt
+one-place k (write e bytes f l) i w = tt
+one-place k (read e f l buf) i w = tt
+one-place k (setStalled e d s l) i w = tt
+one-place k (isStalled e d l) i w = tt
+one-place k forceReset i w = tt
+one-place k (collection e f) i w = tt
+one-place k busReset i w = tt
+one-place k suspend i w = tt
+one-place k resume i w = tt
+one-place k setupEnd i w = tt
+one-place k (underrun e) i w = tt
+one-place k (overrun e) i w = tt
+
+module _ (b : Board) (k : Record) (kept : Kept b k) where
+  -- a call that stores leaves the interrupt registers
+  stored : (o : Op) → Stores o → Alike (k .irq) (step k o .irq) → Quiet (look b) k (step k o)
+  stored o s a = calm b k (step k o) a (ap (λ (p : Pending). p .rx) (same-pending k o s))
+
+  flags-same : (o : Op) → Stores o → step k o .irq ≡ k .irq → Quiet (look b) k (step k o)
+  flags-same o s p = stored o s (subst (λ (f : Flags). Alike (k .irq) f) (sym p) (same (k .irq) (small b k kept)))
+
+  -- a host event other than an arrival, refused or not
+  event-does : (x : Entry) (o : events.Event) → raises o (k .regs .pending) .rx ≡ k .regs .pending .rx
+      → Quiet (look b) k (host.unless x k (happens o (k .regs)) .«record»)
+  event-does (Refused x) o due = unchanged (look b) k k refl refl refl refl refl
+  event-does Clear o due = calm b k _ (same (k .irq) (small b k kept)) (ap (λ (p : Pending). p .rx) (pending o (k .regs)) ∙ due)
+
+  collects : (x : Entry) (e : ℕ) → Quiet (look b) k (host.unlessCollected x k (host.collectedFrom k e) .«record»)
+  unfolding host.collectedFrom
+  collects (Refused x) e = unchanged (look b) k k refl refl refl refl refl
+  collects Clear e = event-does Clear (events.collection e) refl
+
+  abbrev plain : Entry
+  plain = entryBy false (recordSound k) false
+
+  pub does : (o : Op) → Does (look b) k (event k o) (step k o)
+  unfolding host.collectionCall host.busResetCall host.suspendCall host.resumeCall host.setupEndCall host.underrunCall host.overrunCall host.missCall
+  does (poll l) = poll-does b k kept l (ap (λ (p : Pending). p .rx) (same-pending k (poll l) tt))
+  does onInterrupt = interrupt-does b k kept
+  does (arrival e bytes f) = arrival-does k e bytes f b
+  does (allocEp q w) = flags-same (allocEp q w) tt (alloc-ep-call k q w)
+  does (busInit l) = flags-same (busInit l) tt (bus-init-call k l)
+  does (enable l) = flags-same (enable l) tt (enable-call k l)
+  does (reset l) = flags-same (reset l) tt (reset-call k l)
+  does (setDeviceAddress a l) = flags-same (setDeviceAddress a l) tt (address-call k l a)
+  does (write e bytes f l) = stored (write e bytes f l) tt (write-call k (small b k kept) e bytes f l)
+  does (read e f l buf) = flags-same (read e f l buf) tt (read-call k e f l buf)
+  does (setStalled e d s l) = flags-same (setStalled e d s l) tt (set-stalled-call k l e d s)
+  does (isStalled e d l) = flags-same (isStalled e d l) tt (is-stalled-call k l e d)
+  does forceReset = flags-same forceReset tt refl
+  does (collection e f) = collects (host.collectionRefusal k e (length f)) e
+  does busReset = event-does plain events.reset refl
+  does suspend = event-does plain events.suspend refl
+  does resume = event-does plain events.resume refl
+  does setupEnd = event-does plain events.setupend refl
+  does (underrun e) = event-does (host.missRefusal k e) (events.miss e In) refl
+  does (overrun e) = event-does (host.missRefusal k e) (events.miss e Out) refl

@@ -1,0 +1,120 @@
+-- The driver itself as a machine that is polled: demand 3's words, over demand 2's definitions of the calls.
+-- Assumes nothing.
+use mathlib.Core.Path.{_≡_}
+use mathlib.Core.Bool.{Bool, true, false}
+use mathlib.Core.List.{List}
+use Prim.Native.Nat.{ℕ, _-_, _≤_, _<_}
+use lib.ListN.{length}
+use Rattle.laws.specs.Words.{bit}
+use Rattle.board.specs.declared.Board.{Board}
+use Rattle.board.specs.declared.Direction.the-variants.{Out}
+use Rattle.board.specs.Boards.{rows}
+use Rattle.regs.specs.Registers.{sideAt}
+use Rattle.record.specs.declared.Record.{Record}
+use Rattle.record.specs.Record.{freshRecord, recordSound, endpointsOf, areaOf, needOf}
+use Rattle.usb_device_interrupt.specs.declared.Interrupted.{Interrupted}
+use Rattle.usb_device_interrupt.specs.declared.Interrupted.the-variants as interrupted
+use Rattle.usb_device_interrupt.specs.Interrupt.{interruptCall}
+use Rattle.usb_device_poll.specs.declared.PollResult.{PollResult}
+use Rattle.usb_device_poll.specs.declared.PollResult.the-variants.{None, Data, Reset, Resume, Suspend}
+use Rattle.usb_device_poll.specs.declared.PollAnswer.{PollAnswer}
+use Rattle.usb_device_poll.specs.declared.PollAnswer.the-variants as polled
+use Rattle.usb_device_poll.specs.Poll.{pollCall}
+use Rattle.host.specs.declared.Happened.{Happened}
+use Rattle.host.specs.declared.Happened.the-variants as happened
+use Rattle.host.specs.Host.{arrivalCall}
+use Rattle.calls.specs.Calls.{Op, allocEp, busInit, enable, reset, setDeviceAddress, write, read, setStalled, isStalled, poll, onInterrupt, forceReset, arrival, collection, busReset, suspend, resume, setupEnd, underrun, overrun, step}
+use Rattle.rounds.specs.Machine as rounds
+use Rattle.rounds.specs.Machine.{Event, Machine, round, interrupt, pause, quiet}
+use Rattle.rounds.specs.Sentences.{Calls}
+
+-- What happened is told by the answer of a call, which its caller sees. Answered is reply 0; a refused poll, interrupt or arrival is
+-- nothing. The words `still`, `since` and `between` are those of crate rounds.
+
+-- "Call an answered poll that is neither Reset, Resume nor Suspend a round." Named for reading: the bit in Data's out mask. Named as
+-- sent: the bit in its in mask. None names nothing.
+abbrev pub resultEvent : PollResult → Event
+resultEvent None = round (λ e. false) (λ e. false)
+resultEvent (Data m) = round (bit (m .«ep_out»)) (bit (m .«ep_in_complete»))
+resultEvent Reset = pause
+resultEvent Resume = pause
+resultEvent Suspend = pause
+
+abbrev pub pollEvent : PollAnswer → Event
+pollEvent (polled.Done a) = resultEvent a
+pollEvent (polled.Refused x) = quiet
+
+-- "taken": an answered on_interrupt. What it read is what the model's interrupt registers held just before it, never the driver's flags.
+-- A packet's receive interrupt is taken by any interrupt after it arrived: its bit stands in the register until it is read.
+abbrev pub interruptEvent : Interrupted → Record → Event
+interruptEvent interrupted.Done k = interrupt (bit (k .regs .pending .tx)) (k .regs .pending .usb .suspend)
+interruptEvent (interrupted.Refused x) k = quiet
+
+-- "the packets that arrived": answered arrivals, over the whole history
+abbrev pub arrivalEvent : Happened → ℕ → Event
+arrivalEvent happened.Done e = rounds.arrival e
+arrivalEvent (happened.Refused x) e = quiet
+
+abbrev pub event : Record → Op → Event
+event k (poll l) = pollEvent (pollCall k l .result .answer)
+event k onInterrupt = interruptEvent (interruptCall k .answer) k
+event k (arrival e b f) = arrivalEvent (arrivalCall k e b f .event .answer) e
+event k (allocEp q w) = quiet
+event k (busInit l) = quiet
+event k (enable l) = quiet
+event k (reset l) = quiet
+event k (setDeviceAddress a l) = quiet
+event k (write e b f l) = quiet
+event k (read e f l b) = quiet
+event k (setStalled e d s l) = quiet
+event k (isStalled e d l) = quiet
+event k forceReset = quiet
+event k (collection e f) = quiet
+event k busReset = quiet
+event k suspend = quiet
+event k resume = quiet
+event k setupEnd = quiet
+event k (underrun e) = quiet
+event k (overrun e) = quiet
+
+-- "a packet still waiting", "with nothing waiting": the endpoint's RxPktRdy, which is set for an empty packet too
+abbrev pub waiting : Record → ℕ → Bool
+waiting k e = sideAt (k .regs) e Out .ready
+
+-- "For endpoints 1 to 5, over any history from a fresh record": 5 is the board's own highest endpoint. A history is any list of public
+-- calls and host events, each lent whatever it is lent.
+abbrev pub driver : Board → Machine
+driver b = record {
+  top = length (rows b) - 1;
+  State = Record;
+  Op = Op;
+  fresh = freshRecord b;
+  step = step;
+  event = event;
+  waiting = waiting;
+}
+
+-- That the sentences are not empty: which calls must be answered.
+
+-- a poll that is lent 128 stores
+pub record LentPoll (o : Op) : Type 0 where
+  pub list : List ℕ
+  pub is : o ≡ poll list
+  pub lent : 384 ≤ length list
+
+-- an arrival at one of the board's endpoints, of a packet that fits its area, lent the FIFO buffer that the board needs
+pub record LentArrival (k : Record) (e : ℕ) (o : Op) : Type 0 where
+  pub bytes : List ℕ
+  pub fifo : List ℕ
+  pub is : o ≡ arrival e bytes fifo
+  pub there : e < endpointsOf k
+  pub fits : length bytes ≤ areaOf k e Out .size
+  pub lent : needOf k ≤ length fifo
+
+abbrev pub calls : (b : Board) → Calls (driver b)
+calls b = record {
+  Good = λ k. recordSound k ≡ true;
+  Poll = LentPoll;
+  Interrupt = λ o. o ≡ onInterrupt;
+  Arrival = LentArrival;
+}
