@@ -1,6 +1,5 @@
 pub mod Flags
 pub mod Taken
-pub mod Serviced
 pub mod Ready
 pub mod Look
 pub mod Polls

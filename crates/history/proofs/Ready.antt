@@ -14,27 +14,31 @@ use Rattle.board.specs.Boards.{rows, at-most-six}
 use Rattle.board.specs.declared.Direction.the-variants.{Out}
 use Rattle.regs.specs.declared.Side.{Side}
 use Rattle.regs.specs.declared.Regs.{Regs}
+use Rattle.regs.specs.declared.control.Csr0l.{Csr0l}
 use Rattle.regs.specs.declared.control.Csr0lSet.the-variants.{ServicedSetupEnd}
 use Rattle.regs.specs.declared.control.TxcsrlSet.the-variants.{NoUnderRun}
 use Rattle.regs.specs.declared.control.RxcsrlSet.the-variants.{NoOverRun}
 use Rattle.regs.specs.Registers.{Whole, sideAt, chosen, withIndex}
-use Rattle.regs.specs.Control.{csr0lRead, count0, txcsrlRead, txcsrlSet, rxcsrlRead, rxcsrlOf, rxcsrlSet, rxStored}
+use Rattle.regs.specs.Control.{csr0lRead, csr0lSet, count0, txcsrlRead, txcsrlSet, rxcsrlRead, rxcsrlOf, rxcsrlSet, rxStored}
 use Rattle.regs.specs.Sound.{SideOk}
 use Rattle.regs.proofs.Sides.{by-eps}
-use Rattle.regs.proofs.Modified.{rx-repaired}
+use Rattle.regs.proofs.Modified.{rx-repaired, zero-still-waits}
 use Rattle.stores.specs.Stores.{Log, writeIndex, modifyCsr0l, modifyTxcsrl, modifyRxcsrl}
 use Rattle.stores.specs.Promise.{Store, index, csr0l, txcsrl, rxcsrl, does, leaves, selects}
-use Rattle.stores.proofs.Promises.{sides, rest, modify-csr0l, modify-txcsrl, modify-rxcsrl}
+use Rattle.stores.proofs.Promises.{sides, rest, index-selects, modify-csr0l, modify-txcsrl, modify-rxcsrl}
 use Rattle.common_impl.specs.Common.{underRunCleared, overRunCleared, repaired, numbers, repairedBelow, checkOverrun}
 use Rattle.control_state.specs.declared.ControlState.{ControlState}
 use Rattle.control_state.specs.declared.ControlStateEnum.{ControlStateEnum}
 use Rattle.control_state.specs.declared.ControlStateEnum.the-variants.{Idle, Setup, DataIn, DataOut, Accepted, NodataPhase}
 use Rattle.record.specs.declared.Flags.{Flags}
 use Rattle.peek.specs.Peek.{rxPktRdy}
-use Rattle.peek.proofs.Readings.{index-stored, rx-ready}
+use Rattle.peek.proofs.Readings.{rx-ready}
 use Rattle.usb_device_poll.specs.Round.{Round, round, withEp0, setupTaken, restarted, cutShort, receivedBy, zeroBy, zeroServed, endpointZero, readyAt, walked}
 use Rattle.usb_device_poll.proofs.Drained.{leftBy, walked-left}
-use Rattle.history.proofs.Serviced.{setupEndServiced, still-waits}
+
+-- what endpoint 0's step stores to CSR0L
+abbrev setupEndServiced : Regs → Csr0l
+setupEndServiced r = csr0lSet ServicedSetupEnd (csr0lRead r)
 
 -- a side with the same packet waiting, or none as before
 pub record SamePacket (s t : Side) : Type 0 where
@@ -127,7 +131,7 @@ module _ (r : Regs) (none : (e : ℕ) → sideAt r e Out .ready ≡ false → si
     where
       side : (e : ℕ) → Dec (e ≡ 0)
           → SamePacket (sideAt (h .regs) e Out) (leaves (csr0l (setupEndServiced (h .regs))) (h .regs .index) e Out (sideAt (h .regs) e Out))
-      side e (yes p) = rw (eq-eqb e 0 p) (rw p (equal (still-waits (h .regs) (w .six))))
+      side e (yes p) = rw (eq-eqb e 0 p) (rw p (equal (zero-still-waits (h .regs))))
       side e (no n) = rw (ne-eqb e 0 n) (same (sideAt (h .regs) e Out))
 
   either : (b : Bool) (x y : Round) → Waits (x .log) → Waits (y .log) → Waits (cond b x y .log)
@@ -162,11 +166,11 @@ module _ (r : Regs) (none : (e : ℕ) → sideAt r e Out .ready ≡ false → si
   Known h = (e : ℕ) → sideAt (h .regs) e Out .ready ≡ sideAt r e Out .ready
 
   known : (e : ℕ) (h : Log) → Known h → Known (writeIndex e h)
-  known e h k i = ap (λ (q : Regs). sideAt q i Out .ready) (index-stored e h) ∙ ap (λ (s : Side). s .ready) (by-eps (withIndex (h .regs) e) (h .regs) i Out refl) ∙ k i
+  known e h k i = ap (λ (q : Regs). sideAt q i Out .ready) (index-selects e h) ∙ ap (λ (s : Side). s .ready) (by-eps (withIndex (h .regs) e) (h .regs) i Out refl) ∙ k i
 
   reads : (e : ℕ) (h : Log) → Known h → readyAt e (writeIndex e h .regs) ≡ sideAt r e Out .ready
   unfolding readyAt rxPktRdy
-  reads e h k = ap (readyAt e) (index-stored e h) ∙ rx-ready (h .regs) e ∙ k e
+  reads e h k = ap (readyAt e) (index-selects e h) ∙ rx-ready (h .regs) e ∙ k e
 
   pub walk-leaves : (flags : ℕ) (h : Log) → Waits h → walked flags h .out ≡ leftBy flags (λ e. sideAt r e Out .ready)
   walk-leaves flags h w = walked-left flags (λ e. sideAt r e Out .ready) Known known reads h (λ e. w .packet e .ready)

@@ -2,8 +2,8 @@
 use Prim.Native.Nat.{ℕ}
 use mathlib.Core.Path.{_≡_, refl}
 use mathlib.Core.Bool.{Bool, true, false, not, _&&_}
-use Rattle.laws.proofs.Tests.{and-zero, and-self, or-one, or-self}
-use Rattle.board.specs.declared.Direction.the-variants.{In}
+use Rattle.laws.proofs.Tests.{and-zero, and-one, and-self, or-one, or-self}
+use Rattle.board.specs.declared.Direction.the-variants.{Out, In}
 use Rattle.regs.specs.declared.Side.{Side}
 use Rattle.regs.specs.declared.Regs.{Regs}
 use Rattle.regs.specs.declared.control.Csr0lSet.{Csr0lSet}
@@ -68,6 +68,11 @@ zero-kept r csr0l.DataEnd n = rw (or-self (sideAt r 0 In .ready), and-self (side
 zero-kept r csr0l.ServicedRxPktRdy n = rw (or-self (sideAt r 0 In .ready), and-self (sideAt r 0 In .stalled))
 zero-kept r csr0l.ServicedSetupEnd n = rw (or-self (sideAt r 0 In .ready), and-self (sideAt r 0 In .stalled))
 zero-kept r csr0l.ServicedBoth n = rw (or-self (sideAt r 0 In .ready), and-self (sideAt r 0 In .stalled))
+
+-- and on its receive side: servicing a setup end leaves a packet waiting
+pub zero-still-waits : (r : Regs) → dropped (csr0lSet csr0l.ServicedSetupEnd (csr0lRead r) .«serviced_rx_pkt_rdy») (sideAt r 0 Out) ≡ sideAt r 0 Out
+unfolding csr0lSet csr0lRead dropped
+zero-still-waits r = rw (and-one (sideAt r 0 Out .ready))
 
 -- a `modify` writes the SendStall that it read
 pub txcsrl-stall : (s : TxcsrlSet) (x : Side) → txcsrlSet s (txcsrlOf x) .«send_stall» ≡ x .stall
