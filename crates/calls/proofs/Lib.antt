@@ -7,3 +7,4 @@ pub mod Reading
 pub mod Polling
 pub mod Happening
 pub mod Kept
+pub mod Halts
