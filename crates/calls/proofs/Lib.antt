@@ -8,3 +8,6 @@ pub mod Polling
 pub mod Happening
 pub mod Kept
 pub mod Halts
+pub mod Listed
+pub mod Ends
+pub mod Demand
