@@ -5,6 +5,7 @@ use mathlib.Core.Bool.{Bool, true, false, cond}
 use mathlib.Core.List.{List, []}
 use mathlib.Core.Logic.{_⊎_, inl, inr}
 use borrow.Author.Tests.{leb-false}
+use lib.Dec.{leb}
 use lib.ListN.{length}
 use Rattle.board.specs.declared.Board.{Board}
 use Rattle.board.specs.Boards.{rows}
@@ -22,7 +23,6 @@ use Rattle.record.specs.declared.Entry.the-variants.{Clear}
 use Rattle.record.specs.Record.{recordSound, endpointsOf, entryBy}
 use Rattle.record.proofs.Rows.{none-refused}
 use Rattle.calls.proofs.Steps.{Step, one, Reached, none, then, Sane, Gentle, gentle-sane}
-use lib.Dec.{leb}
 
 -- reply 16: no "flag above bit 5", the board's own last endpoint being the highest
 abbrev pub Low : Board → Flags → Type 0
@@ -43,8 +43,8 @@ pub left : {May : Step → Log → Type 0} {k q : Record} → q .regs ≡ k .reg
 left {k = k} p f = record { list = []; last = log (k .regs) [] 0; path = none; is = p; served = inl p; flags = λ h. rw f h }
 
 -- the stores of g, and the flags as they were
-pub stores : {May : Step → Log → Type 0} {k q : Record} (l : List ℕ) (g : Log) → recordSound k ≡ true → Reached May (log (k .regs) l 0) g → q .regs ≡ g .regs → q .irq ≡ k .irq
-    → Account May k q
+pub stores : {May : Step → Log → Type 0} {k q : Record} (l : List ℕ) (g : Log) → recordSound k ≡ true → Reached May (log (k .regs) l 0) g
+    → q .regs ≡ g .regs → q .irq ≡ k .irq → Account May k q
 stores l g s r p f = record { list = l; last = g; path = r; is = p; served = inr s; flags = λ h. rw f h }
 
 pub sane : {b : Board} {k q : Record} → Account (Gentle b) k q → Account (Sane b) k q

@@ -8,11 +8,12 @@ use lib.Dec.{eqb}
 use Rattle.record.specs.declared.Record.{Record}
 use Rattle.calls.specs.Calls.{Op, Outcome, outcome}
 use Rattle.calls.specs.Demand.{lent, unchanged, Answers}
+use Rattle.calls.proofs.Sides.{clash}
 use Rattle.calls.proofs.Ends.{Ends, done, refused, blocked, ends}
 
 module _ (k : Record) (o : Op) where
   not-six : {A : Type 0} (n : ℕ) → eqb n 6 ≡ false → n ≡ 6 → A
-  not-six n p e = let q = eq-eqb n 6 e in let z : _≡_ {A = ℕ} 0 1 = cc in absurd (omega arith)
+  not-six n p e = clash (sym (eq-eqb n 6 e) ∙ p)
 
   answers-of : Ends k o (outcome k o) → Answers k o
   answers-of (done a p) = record {

@@ -58,6 +58,7 @@ use Rattle.host.specs.Host as host
 use Rattle.host.proofs.Replies as events
 use Rattle.calls.specs.Calls.{Op, allocEp, busInit, enable, reset, setDeviceAddress, write, read, setStalled, isStalled, poll, onInterrupt, forceReset, arrival, collection, busReset, suspend, resume, setupEnd, underrun, overrun, Outcome, called, told, allocated, polled, interrupted, happened, arrived, collected, outcome}
 use Rattle.calls.specs.Demand.{replies, allocReplies, among, noneLent, listLent, lent, unchanged, selected, Blocking, writing, reading, Answers}
+use Rattle.calls.proofs.Sides.{clash}
 use Rattle.calls.proofs.Listed.{front}
 
 -- x is all that an operation leaves
@@ -65,9 +66,6 @@ pub data Ends (k : Record) (o : Op) (x : Outcome) : Type 0 where
   done : among 0 (replies o) ≡ true → x .reply ≡ 0 → Ends k o x
   refused : (n : ℕ) → eqb n 6 ≡ false → among n (replies o) ≡ true → x ≡ unchanged n k (lent o) → Ends k o x
   blocked : (e : ℕ) → Blocking o e → among 6 (replies o) ≡ true → x ≡ selected e k (lent o) → Ends k o x
-
-clash : {A : Type 0} → false ≡ true → A
-clash e = let z : _≡_ {A = ℕ} 0 1 = cc in absurd (omega arith)
 
 -- the numbers of a call's rows in their order, and 0
 abbrev numbers : List Row → List ℕ
@@ -95,7 +93,7 @@ module _ (k : Record) (o : Op) (rs : List Row) (is : numbers rs ≡ replies o) (
   rejected : (y : Refusal) {x : Outcome} → Given y rs → x ≡ unchanged (refusalNumber y) k (lent o) → Ends k o x
   rejected y g p =
       let a : among (refusalNumber y) (replies o) ≡ true = rw (← is) (given-among y rs g) in
-      refused (refusalNumber y) (ne-eqb _ 6 (λ e. clash (sym no-six ∙ ap (λ (n : ℕ). among n (replies o)) (sym e) ∙ a))) a p
+      refused (refusalNumber y) (ne-eqb _ 6 (λ e. clash (sym a ∙ ap (λ (n : ℕ). among n (replies o)) e ∙ no-six))) a p
 
   called-ends : (l : List ℕ) {a : impl.Outcome} → lent o ≡ listLent l → simple.Answers a k l rs → Ends k o (called a)
   called-ends l {a} p t = go (a .call .answer) refl
@@ -133,7 +131,7 @@ module _ (k : Record) (e : ℕ) (l : List ℕ) where
       ∙ front l INDEX e e (omega arith)
 
   -- the same in write and read, which differ in what else they are lent
-  pub blocks : (f b : List ℕ) → 384 ≤ length l
+  blocks : (f b : List ℕ) → 384 ≤ length l
       → record { reply = 6; «record» = withRegs k (chose .regs); stores = chose .count; fifo = f; list = chose .list; buf = b }
       ≡ selected e k (record { fifo = f; list = l; buf = b })
   blocks f b h = λ i. record {
@@ -145,7 +143,7 @@ module _ (k : Record) (e : ℕ) (l : List ℕ) where
     buf = b;
   }
 
--- replies 1 to 5
+-- replies 1 to 5: none is 6, and each is among those of the number that is wanted
 error-other : (x : EndpointAllocError) → eqb (errorNumber x) 6 ≡ false
 error-other EndpointOverflow = refl
 error-other InvalidEndpoint = refl
@@ -156,15 +154,15 @@ error-other MaxPacketSizeBiggerThanEpFifoSize = refl
 error-among : (b : Board) (es : List EndpointData) (q : Ask) (w : Wanted) (x : EndpointAllocError) → allocation.Given (rows b) es q x w
     → among (errorNumber x) (allocReplies w) ≡ true
 error-among b es q Any EndpointOverflow g = refl
-error-among b es q Any InvalidEndpoint g = clash g
-error-among b es q Any MaxPacketSizeBiggerThanEpFifoSize g = clash (g .1)
-error-among b es q Any EpDirNotSupported g = clash (g .2)
-error-among b es q Any EpUsed g = clash (g .3)
+error-among b es q Any InvalidEndpoint g = clash (sym g)
+error-among b es q Any MaxPacketSizeBiggerThanEpFifoSize g = clash (sym (g .1))
+error-among b es q Any EpDirNotSupported g = clash (sym (g .2))
+error-among b es q Any EpUsed g = clash (sym (g .3))
 error-among b es q (Number zero) EndpointOverflow g = let z : _≡_ {A = ℕ} 0 1 = cc in absurd (omega arith)
 error-among b es q (Number zero) InvalidEndpoint g = absurd (omega (arith, leb-true (length (rows b)) 0 g, at-least-one b))
-error-among b es q (Number zero) MaxPacketSizeBiggerThanEpFifoSize g = clash (g .1)
-error-among b es q (Number zero) EpDirNotSupported g = clash (g .2)
-error-among b es q (Number zero) EpUsed g = clash (g .3)
+error-among b es q (Number zero) MaxPacketSizeBiggerThanEpFifoSize g = clash (sym (g .1))
+error-among b es q (Number zero) EpDirNotSupported g = clash (sym (g .2))
+error-among b es q (Number zero) EpUsed g = clash (sym (g .3))
 error-among b es q (Number (suc n)) EndpointOverflow g = let z : _≡_ {A = ℕ} 0 1 = cc in absurd (omega arith)
 error-among b es q (Number (suc n)) InvalidEndpoint g = refl
 error-among b es q (Number (suc n)) MaxPacketSizeBiggerThanEpFifoSize g = refl
@@ -195,6 +193,7 @@ module _ (k : Record) (q : Ask) (w : Wanted) where
       go false = refused 16 refl (alloc-among w .1) refl
       go true = handed-ends (given .answer) refl
 
+-- the operations
 module _ (k : Record) where
   abbrev Ended : Op → Type 0
   Ended o = Ends k o (outcome k o)

@@ -1,6 +1,6 @@
 -- The account of `poll`: the overrun check, endpoint 0, and the index stores of the walk; and its flags. Assumes nothing.
 use Prim.Native.Nat.{ℕ, zero, suc, _+_, _-_, _^_, _≤_, _<_}
-use mathlib.Core.Path.{_≡_, refl}
+use mathlib.Core.Path.{_≡_, refl, sym, _∙_}
 use mathlib.Core.Bool.{Bool, true, false, cond}
 use mathlib.Core.List.{List, [], _∷_, foldl}
 use mathlib.Core.Logic.{inr}
@@ -32,6 +32,7 @@ use Rattle.record.specs.Record.{recordSound, entryBy}
 use Rattle.record.proofs.Passing.{record-is-sound}
 use Rattle.usb_device_poll.specs.Round.{Round, round, Walk, walk, withEp0, sentBy, setupTaken, restarted, cutShort, receivedBy, zeroBy, zeroServed, endpointZero, putBack, acceptedBy, acceptStep, readyAt, drained, visit, walked}
 use Rattle.usb_device_poll.specs.Poll.{PollOutcome, ended, walkedOn, acceptedOn, roundOut, pollBy, pollLogged, pollServed, pollWhen, pollCall}
+use Rattle.calls.proofs.Sides.{clash}
 use Rattle.calls.proofs.Steps.{Reached, none, then, one, Gentle}
 use Rattle.calls.proofs.Accounts.{Low, Account, left, by-test, tx-modifies, rx-modifies, zero-modifies, passes}
 
@@ -62,7 +63,7 @@ bits-below n w (suc m) l h a = bits-below n w m (cond (bit w m) (m ∷ l) l) h (
     go true p = (low (decLe n m), a)
       where
         low : Dec (n ≤ m) → m < n
-        low (yes i) = let q = high-bit n w m h i in let z : _≡_ {A = ℕ} 0 1 = cc in absurd (omega arith)
+        low (yes i) = clash (sym p ∙ high-bit n w m h i)
         low (no i) = lt-of-not-le i
 
 set-below : (n w : ℕ) → w < 2 ^ n → AllBelow n (setBits w)

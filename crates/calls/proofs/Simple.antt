@@ -29,6 +29,7 @@ use Rattle.record.specs.declared.Record.{Record}
 use Rattle.record.specs.declared.Entry.{Entry}
 use Rattle.record.specs.declared.Entry.the-variants.{Clear, Refused}
 use Rattle.record.specs.Record.{recordSound, endpointsOf, entryBy}
+use Rattle.host.proofs.Laws.{never}
 use Rattle.usb_device_impl.specs.Calls.{stored, unless, short, begun, beyond, busInitCall, enableCall, txEnabled, rxEnabled, usedEnabled, enabledBelow, resetStores, idled, resetCall, addressEntry, addressCall, epStall, afterStall, setStalledCall, toldOf, unlessTold, isStalledCall, unlessAllocated, allocEp, allocEpCall}
 use Rattle.calls.proofs.Steps.{Step, one, Reached, none, then, Sane, Gentle}
 use Rattle.calls.proofs.Accounts.{Account, left, stores, by-test, txModify, rxModify, zeroModify, passes, below}
@@ -48,11 +49,13 @@ at-passes k e l c = passes (short l) (recordSound k) (beyond k e) c
 
 -- a call that is refused stores nothing
 module _ {May : Step → Log → Type 0} (k : Record) (l : List ℕ) where
-  unless-refused : (c : ControlState) (g : Log) (t : Entry) → (t ≡ Clear → recordSound k ≡ true) → (t ≡ Clear → Reached May (begun k l) g) → Account May k (unless t k l (stored k c g) .call .«record»)
+  unless-refused : (c : ControlState) (g : Log) (t : Entry) → (t ≡ Clear → recordSound k ≡ true) → (t ≡ Clear → Reached May (begun k l) g)
+      → Account May k (unless t k l (stored k c g) .call .«record»)
   unless-refused c g (Refused x) s f = left refl refl
   unless-refused c g Clear s f = stores l g (s refl) (f refl) refl refl
 
-  told-unless : (b : Bool) (g : Log) (t : Entry) → (t ≡ Clear → recordSound k ≡ true) → (t ≡ Clear → Reached May (begun k l) g) → Account May k (unlessTold t k l (toldOf k b g) .call .«record»)
+  told-unless : (b : Bool) (g : Log) (t : Entry) → (t ≡ Clear → recordSound k ≡ true) → (t ≡ Clear → Reached May (begun k l) g)
+      → Account May k (unlessTold t k l (toldOf k b g) .call .«record»)
   told-unless b g (Refused x) s f = left refl refl
   told-unless b g Clear s f = stores l g (s refl) (f refl) refl refl
 
@@ -87,13 +90,15 @@ module _ (k : Record) where
       (λ c. then none (one (faddr a)) (leb-true a 127 (passed (lent k l) (leb a 127) c .1), tt))
     where
       passed : (t : Entry) (fits : Bool) → addressEntry t fits ≡ Clear → (t ≡ Clear) × (fits ≡ true)
-      passed (Refused x) fits c = (c, let z : _≡_ {A = ℕ} 0 1 = cc in absurd (omega arith))
+      passed (Refused x) fits c = (c, never c)
       passed Clear true c = (refl, refl)
-      passed Clear false c = (refl, let z : _≡_ {A = ℕ} 0 1 = cc in absurd (omega arith))
+      passed Clear false c = never c
 
   pub is-stalled : (e : ℕ) (d : Direction) (l : List ℕ) → Account (Gentle b) k (isStalledCall k e d l .call .«record»)
   unfolding isStalledCall
-  is-stalled e d l = told-unless k l (isStalled d e (begun k l)) _ (lentAt k e l) (at-passes k e l) (λ c. then none (one (index e)) (below k e (short l) (recordSound k) c, tt))
+  is-stalled e d l =
+      told-unless k l (isStalled d e (begun k l)) _ (lentAt k e l) (at-passes k e l)
+      (λ c. then none (one (index e)) (below k e (short l) (recordSound k) c, tt))
 
 -- stalling and the reset call, which write SendStall
 module _ (b : Board) (g : Log) where
@@ -157,6 +162,7 @@ module _ (b : Board) (g : Log) where
   all-made es zero h i r = r
   all-made es (suc n) h i r = used-made n (getD es n blank) _ i (all-made es n h (omega arith) r)
 
+-- each endpoint that is enabled or stalled is one of the board's
 module _ (k : Record) where
   pub set-stalled : (e : ℕ) (d : Direction) (s : Bool) (l : List ℕ) → Account (Sane (k .regs .board)) k (setStalledCall k e d s l .call .«record»)
   unfolding setStalledCall

@@ -4,7 +4,6 @@ use mathlib.Core.Path.{_≡_, refl, ap, _∙_}
 use mathlib.Core.Bool.{Bool, true, false, not, _&&_, cond}
 use mathlib.Core.List.{List}
 use mathlib.Core.Logic.{inr}
-use native.Mathlib.Omega.{arith}
 use borrow.Author.Tests.{eq-eqb, eqb-true, ltb-false}
 use lib.Dec.{eqb, ltb}
 use lib.ListN.{length}
@@ -31,6 +30,7 @@ use Rattle.record.specs.Record.{recordSound, areaOf, withControl}
 use Rattle.usb_device_write.specs.Write.{done, tooLong, untakenIn, notWritable, ownTestsAt, tests, blocked, loaded, nodataPhase, accepted, ended, txSize, dataIn, sentDataIn, sentZero, sentOther, sent, taken, writeCall, Ran}
 use Rattle.usb_device_write.specs.Replies.{Given, done as granted, blocks, beyond, long, untaken, little, unsound}
 use Rattle.usb_device_write.proofs.Answers.{exactly}
+use Rattle.calls.proofs.Sides.{clash}
 use Rattle.calls.proofs.Steps as steps
 use Rattle.calls.proofs.Steps.{Reached, none, then, one, Gentle, Readies}
 use Rattle.calls.proofs.Accounts.{Low, Account, left, stores, by-test, txModify, zeroModify, zero-modifies, there}
@@ -103,15 +103,12 @@ module _ (k : Record) (ep n : ℕ) (l : List ℕ) (s : recordSound k ≡ true) (
       let c = decreased (k .«control_state») n in
       by-test Fine (eqb (c .«tx_len») 0) (ends _ g r) (by-test Fine (ltb n (txSize k)) (ends _ g r) (finish (withControl k c) g r (λ f. f)))
 
-  not-empty : {A : Type 0} → true ≡ false → A
-  not-empty e = let z : _≡_ {A = ℕ} 0 1 = cc in absurd (omega arith)
-
   empty : not (eqb n 0) ≡ false → n ≡ 0
   empty e = go (eqb n 0) refl e
     where
       go : (z : Bool) → eqb n 0 ≡ z → not z ≡ false → n ≡ 0
       go true p q = eqb-true n 0 p
-      go false p q = not-empty q
+      go false p q = clash q
 
   -- endpoint 0: reply 11 came before wherever a packet would stay without its ready bit
   at-zero : (s : ControlStateEnum) → ep ≡ 0 → n ≤ areaOf k ep In .size → untakenIn s n ≡ false → Fine (sentZero s n k (loaded ep n begun))
@@ -120,9 +117,9 @@ module _ (k : Record) (ep n : ℕ) (l : List ℕ) (s : recordSound k ≡ true) (
       finish (nodataPhase k) _ (empty-path (empty w)) (λ f. (raised-lt _ _ 0 (f .0) (at-least-one b), f .1))
   at-zero DataIn z h w = in-data _ (zero-path h z)
   at-zero Idle z h w = finish (accepted k) _ (empty-path (empty w)) (λ f. f)
-  at-zero Setup z h w = not-empty w
-  at-zero DataOut z h w = not-empty w
-  at-zero Accepted z h w = not-empty w
+  at-zero Setup z h w = clash w
+  at-zero DataOut z h w = clash w
+  at-zero Accepted z h w = clash w
 
   sends : n ≤ areaOf k ep In .size → notWritable k ep n ≡ false → Fine (sent k ep n (loaded ep n begun))
   unfolding sent sentOther notWritable
