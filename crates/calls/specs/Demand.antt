@@ -19,6 +19,7 @@ use Rattle.calls.specs.Calls.{Op, allocEp, busInit, enable, reset, setDe
 -- document 01's table, by operation: the refusals in the order of their tests, and 0 where none is given.
 -- "Order: 15, 16, 8, then write 6, 9, 11; read 6, 12, 13; arrival 9, 17; address 14; allocation 2, 5, 3, 4."
 -- "wanted number 0 is never checked"; reply 1 is given where no number is wanted.
+-- The list is a bound: exactly when each number is given is said by the laws of the call's own crate.
 abbrev pub allocReplies : Wanted → List ℕ
 allocReplies Any = 16 ∷ 1 ∷ 0 ∷ []
 allocReplies (Number zero) = 16 ∷ 0 ∷ []
