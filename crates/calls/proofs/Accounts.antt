@@ -3,7 +3,9 @@ use Prim.Native.Nat.{ℕ, _^_, _<_}
 use mathlib.Core.Path.{_≡_}
 use mathlib.Core.Bool.{Bool, true, false, cond}
 use mathlib.Core.List.{List, []}
+use mathlib.Core.Logic.{_⊎_, inl, inr}
 use borrow.Author.Tests.{leb-false}
+use lib.Dec.{leb}
 use lib.ListN.{length}
 use Rattle.board.specs.declared.Board.{Board}
 use Rattle.board.specs.Boards.{rows}
@@ -18,34 +20,35 @@ use Rattle.stores.proofs.Halts.{tx-modified, rx-modified}
 use Rattle.record.specs.declared.Flags.{Flags}
 use Rattle.record.specs.declared.Record.{Record}
 use Rattle.record.specs.declared.Entry.the-variants.{Clear}
-use Rattle.record.specs.Record.{endpointsOf, entryBy}
+use Rattle.record.specs.Record.{recordSound, endpointsOf, entryBy}
 use Rattle.record.proofs.Rows.{none-refused}
 use Rattle.calls.proofs.Steps.{Step, one, Reached, none, then, Sane, Gentle, gentle-sane}
-use lib.Dec.{leb}
 
 -- reply 16: no "flag above bit 5", the board's own last endpoint being the highest
 abbrev pub Low : Board → Flags → Type 0
 Low b f = (f .«ep_tx» < 2 ^ length (rows b)) × (f .«ep_rx» < 2 ^ length (rows b))
 
--- q is the record k after a call: allowed steps lead to its registers, and no flag comes above the last endpoint's
+-- q is the record k after a call: allowed steps lead to its registers, none where reply 16 was given, and no flag comes above the last
+-- endpoint's
 pub record Account (May : Step → Log → Type 0) (k q : Record) : Type 0 where
   pub list : List ℕ
   pub last : Log
   pub path : Reached May (log (k .regs) list 0) last
   pub is : q .regs ≡ last .regs
+  pub served : (q .regs ≡ k .regs) ⊎ (recordSound k ≡ true)
   pub flags : Low (k .regs .board) (k .irq) → Low (k .regs .board) (q .irq)
 
 -- nothing is stored
 pub left : {May : Step → Log → Type 0} {k q : Record} → q .regs ≡ k .regs → q .irq ≡ k .irq → Account May k q
-left {k = k} p f = record { list = []; last = log (k .regs) [] 0; path = none; is = p; flags = λ h. rw f h }
+left {k = k} p f = record { list = []; last = log (k .regs) [] 0; path = none; is = p; served = inl p; flags = λ h. rw f h }
 
 -- the stores of g, and the flags as they were
-pub stores : {May : Step → Log → Type 0} {k q : Record} (l : List ℕ) (g : Log) → Reached May (log (k .regs) l 0) g → q .regs ≡ g .regs → q .irq ≡ k .irq
-    → Account May k q
-stores l g r p f = record { list = l; last = g; path = r; is = p; flags = λ h. rw f h }
+pub stores : {May : Step → Log → Type 0} {k q : Record} (l : List ℕ) (g : Log) → recordSound k ≡ true → Reached May (log (k .regs) l 0) g
+    → q .regs ≡ g .regs → q .irq ≡ k .irq → Account May k q
+stores l g s r p f = record { list = l; last = g; path = r; is = p; served = inr s; flags = λ h. rw f h }
 
 pub sane : {b : Board} {k q : Record} → Account (Gentle b) k q → Account (Sane b) k q
-sane a = record { list = a .list; last = a .last; path = gentle-sane (a .path); is = a .is; flags = a .flags }
+sane a = record { list = a .list; last = a .last; path = gentle-sane (a .path); is = a .is; served = a .served; flags = a .flags }
 
 -- whichever a test decides for
 pub by-test : {A : Type 0} (P : A → Type 0) (t : Bool) {x y : A} → P x → P y → P (cond t x y)
@@ -76,6 +79,10 @@ module _ {b : Board} {g h : Log} (r : Reached (Gentle b) g h) where
 pub there : (k : Record) (e : ℕ) → leb (endpointsOf k) e ≡ false → e < length (rows (k .regs .board))
 unfolding endpointsOf
 there k e p = leb-false (length (rows (k .regs .board))) e p
+
+-- where the first tests refuse nothing, the record passes and the endpoint is there
+pub passes : (s p x : Bool) → entryBy s p x ≡ Clear → p ≡ true
+passes s p x c = none-refused s p x c .1
 
 pub below : (k : Record) (e : ℕ) (s p : Bool) → entryBy s p (leb (endpointsOf k) e) ≡ Clear → e < length (rows (k .regs .board))
 below k e s p c = there k e (none-refused s p _ c .2)

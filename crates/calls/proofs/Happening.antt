@@ -5,7 +5,6 @@ use Prim.Native.Nat.{ℕ, _≤_, _<_}
 use mathlib.Core.Path.{_≡_, refl, _∙_}
 use mathlib.Core.Bool.{Bool, true, false, _||_, cond}
 use mathlib.Core.List.{List}
-use native.Mathlib.Omega.{arith}
 use native.Mathlib.Nat.{le-trans}
 use native.Mathlib.Decide.{ℕ-discrete}
 use borrow.Author.Tests.{eq-eqb, ne-eqb, ltb-false}
@@ -33,8 +32,8 @@ use Rattle.host.specs.Host as host
 use Rattle.host.proofs.Laws as laws
 use Rattle.usb_device_interrupt.specs.Interrupt.{cleared, snapshotOf, interrupted}
 use Rattle.usb_device_interrupt.proofs.Flags.{taken-low}
-use Rattle.calls.proofs.Sides.{stays-ok, alike, either, one-way, dropped-tame}
-use Rattle.calls.proofs.Steps.{Holds}
+use Rattle.calls.proofs.Sides.{clash, stays-ok, alike, either, one-way, dropped-tame}
+use Rattle.calls.proofs.Steps.{Standing, Holds}
 use Rattle.calls.proofs.Accounts.{Low, there}
 
 -- reply 9 was not given: a packet that arrives fits its area
@@ -53,7 +52,7 @@ pub data Happens (k q : Record) : Type 0 where
 
 -- what an event leaves of a side that passes reply 16
 received-ok : (n size : ℕ) (s : Side) → n ≤ size → SideOk size (received n s)
-received-ok n size s h = record { fits = h; none = λ e. let z : _≡_ {A = ℕ} 0 1 = cc in absurd (omega arith) }
+received-ok n size s h = record { fits = h; none = λ e. clash e }
 
 module _ (b : Board) where
   leaves-ok : (o : Event) (e : ℕ) (d : Direction) (s : Side) → Fits b o → SideOk (areaAt (rows b) e d .size) s
@@ -71,19 +70,20 @@ module _ (b : Board) where
   leaves-ok setupend e d s h ok = ok
   leaves-ok (miss f c) e d s h ok = stays-ok _ (either (eqb e f) (one-way c d lapsed (alike refl refl))) ok
 
+  -- the rest of what reply 16 asks of the registers
+  stands : {r q : Regs} → Kept r q → Standing b r → Standing b q
+  stands t s = record {
+    six = t .endpoints ∙ s .six;
+    board = t .board ∙ s .board;
+    selected = rw (t .selected) (s .selected);
+    address = rw (t .addressed) (s .address);
+  }
+
   pub happens-holds : (o : Event) (r : Regs) → at o < 6 → Fits b o → Holds b r → Holds b (happens o r)
-  happens-holds o r i h k =
-      let t = rest o r in
-      let s = k .standing in
-      record {
-        standing = record {
-          six = t .endpoints ∙ s .six;
-          board = t .board ∙ s .board;
-          selected = rw (t .selected) (s .selected);
-          address = rw (t .addressed) (s .address);
-        };
-        side = λ (e : ℕ) (d : Direction). rw (sides o r e d (s .six) i) (leaves-ok o e d _ h (k .side e d));
-      }
+  happens-holds o r i h k = record {
+    standing = stands (rest o r) (k .standing);
+    side = λ (e : ℕ) (d : Direction). rw (sides o r e d (k .standing .six) i) (leaves-ok o e d _ h (k .side e d));
+  }
 
 -- the events
 module _ (k : Record) where
@@ -111,7 +111,7 @@ module _ (k : Record) where
   setup-end = unless-refused setupend (entryBy false (recordSound k) false) (λ c. (lit< tt, tt))
 
   right : (x y : Bool) → (x || y) ≡ false → y ≡ false
-  right true y p = let z : _≡_ {A = ℕ} 0 1 = cc in absurd (omega arith)
+  right true y p = clash p
   right false y p = p
 
   missed : (e : ℕ) (d : Direction) → Happens k (host.missCall k e d .«record»)
@@ -185,18 +185,10 @@ cleared-rest r =
     }
 
 pub cleared-holds : (b : Board) (r : Regs) → Holds b r → Holds b (cleared r)
-cleared-holds b r k =
-    let t = cleared-rest r in
-    let s = k .standing in
-    record {
-      standing = record {
-        six = t .endpoints ∙ s .six;
-        board = t .board ∙ s .board;
-        selected = rw (t .selected) (s .selected);
-        address = rw (t .addressed) (s .address);
-      };
-      side = λ (e : ℕ) (d : Direction). rw (cleared-side r e d) (k .side e d);
-    }
+cleared-holds b r k = record {
+  standing = stands b (cleared-rest r) (k .standing);
+  side = λ (e : ℕ) (d : Direction). rw (cleared-side r e d) (k .side e d);
+}
 
 pub interrupt-low : (k : Record) → Low (k .regs .board) (k .irq) → Low (k .regs .board) (interrupted k .irq)
 unfolding interrupted endpointsOf

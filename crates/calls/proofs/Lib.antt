@@ -7,3 +7,7 @@ pub mod Reading
 pub mod Polling
 pub mod Happening
 pub mod Kept
+pub mod Halts
+pub mod Listed
+pub mod Ends
+pub mod Demand

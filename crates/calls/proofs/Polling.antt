@@ -1,8 +1,9 @@
 -- The account of `poll`: the overrun check, endpoint 0, and the index stores of the walk; and its flags. Assumes nothing.
 use Prim.Native.Nat.{ℕ, zero, suc, _+_, _-_, _^_, _≤_, _<_}
-use mathlib.Core.Path.{_≡_, refl}
+use mathlib.Core.Path.{_≡_, refl, sym, _∙_}
 use mathlib.Core.Bool.{Bool, true, false, cond}
 use mathlib.Core.List.{List, [], _∷_, foldl}
+use mathlib.Core.Logic.{inr}
 use native.Mathlib.Omega.{arith}
 use native.Mathlib.Nat.{div-eq-of-lt, pow-le-pow-right, le-trans, lt-of-not-le, zero-lt-suc}
 use native.Mathlib.Decide.{decLe}
@@ -28,12 +29,12 @@ use Rattle.record.specs.declared.Record.{Record}
 use Rattle.record.specs.declared.Entry.{Entry}
 use Rattle.record.specs.declared.Entry.the-variants.{Clear, Refused}
 use Rattle.record.specs.Record.{recordSound, entryBy}
-use Rattle.record.proofs.Rows.{none-refused}
 use Rattle.record.proofs.Passing.{record-is-sound}
 use Rattle.usb_device_poll.specs.Round.{Round, round, Walk, walk, withEp0, sentBy, setupTaken, restarted, cutShort, receivedBy, zeroBy, zeroServed, endpointZero, putBack, acceptedBy, acceptStep, readyAt, drained, visit, walked}
 use Rattle.usb_device_poll.specs.Poll.{PollOutcome, ended, walkedOn, acceptedOn, roundOut, pollBy, pollLogged, pollServed, pollWhen, pollCall}
+use Rattle.calls.proofs.Sides.{clash}
 use Rattle.calls.proofs.Steps.{Reached, none, then, one, Gentle}
-use Rattle.calls.proofs.Accounts.{Low, Account, left, by-test, tx-modifies, rx-modifies, zero-modifies}
+use Rattle.calls.proofs.Accounts.{Low, Account, left, by-test, tx-modifies, rx-modifies, zero-modifies, passes}
 
 -- words below 2 ^ n: their set bits are below n, and a bit cleared makes none above
 cleared-low : (m w e : ℕ) → w < m → clear w e < m
@@ -62,7 +63,7 @@ bits-below n w (suc m) l h a = bits-below n w m (cond (bit w m) (m ∷ l) l) h (
     go true p = (low (decLe n m), a)
       where
         low : Dec (n ≤ m) → m < n
-        low (yes i) = let q = high-bit n w m h i in let z : _≡_ {A = ℕ} 0 1 = cc in absurd (omega arith)
+        low (yes i) = clash (sym p ∙ high-bit n w m h i)
         low (no i) = lt-of-not-le i
 
 set-below : (n w : ℕ) → w < 2 ^ n → AllBelow n (setBits w)
@@ -191,8 +192,8 @@ module _ (k : Record) (l : List ℕ) where
   abbrev start : Log
   start = log (k .regs) l 0
 
-  low : entryBy (ltb (length l) 384) (recordSound k) false ≡ Clear → Low board (k .irq)
-  low e = let t = record-is-sound k (none-refused (ltb (length l) 384) (recordSound k) false e .1) in (t .tx, t .rx)
+  low : recordSound k ≡ true → Low board (k .irq)
+  low s = let t = record-is-sound k s in (t .tx, t .rx)
 
   ends : Low board (k .irq) → Ends board start (pollServed k l)
   unfolding pollServed pollLogged checkOverrun repairedBelow
@@ -206,4 +207,7 @@ module _ (k : Record) (l : List ℕ) where
     where
       go : (t : Entry) → entryBy (ltb (length l) 384) (recordSound k) false ≡ t → Account (Gentle board) k (pollWhen t k l .result .«record»)
       go (Refused x) e = left refl refl
-      go Clear e = let p = ends (low e) in record { list = l; last = after (pollServed k l); path = p .0; is = refl; flags = λ _. p .1 }
+      go Clear e =
+          let s = passes (ltb (length l) 384) (recordSound k) false e in
+          let p = ends (low s) in
+          record { list = l; last = after (pollServed k l); path = p .0; is = refl; served = inr s; flags = λ _. p .1 }

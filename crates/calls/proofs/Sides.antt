@@ -18,6 +18,9 @@ use Rattle.regs.specs.Control.{txStored, rxStored, zeroTxStored, dropped}
 use Rattle.regs.specs.Sound.{SideOk}
 use Rattle.regs.proofs.AsWritten.{ready-set, ready-kept, packet-kept, flushed, rx-cleared, rx-kept, rx-flushed}
 
+pub clash : {A : Type 0} → true ≡ false → A
+clash e = let z : _≡_ {A = ℕ} 0 1 = cc in absurd (omega arith)
+
 pub record Tame (s t : Side) : Type 0 where
   pub shorter : t .len ≤ s .len
   pub none : (s .ready ≡ false → s .len ≡ 0) → t .ready ≡ false → t .len ≡ 0
@@ -44,9 +47,6 @@ one-way Out Out f t = t
 one-way Out In f t = same
 one-way In Out f t = same
 one-way In In f t = t
-
-clash : {A : Type 0} → true ≡ false → A
-clash e = let z : _≡_ {A = ℕ} 0 1 = cc in absurd (omega arith)
 
 -- a store to TXCSRL, whatever is written
 pub tx-tame : (w : Txcsrl) (s : Side) → Tame s (txStored w s)

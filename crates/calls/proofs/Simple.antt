@@ -29,9 +29,10 @@ use Rattle.record.specs.declared.Record.{Record}
 use Rattle.record.specs.declared.Entry.{Entry}
 use Rattle.record.specs.declared.Entry.the-variants.{Clear, Refused}
 use Rattle.record.specs.Record.{recordSound, endpointsOf, entryBy}
+use Rattle.host.proofs.Laws.{never}
 use Rattle.usb_device_impl.specs.Calls.{stored, unless, short, begun, beyond, busInitCall, enableCall, txEnabled, rxEnabled, usedEnabled, enabledBelow, resetStores, idled, resetCall, addressEntry, addressCall, epStall, afterStall, setStalledCall, toldOf, unlessTold, isStalledCall, unlessAllocated, allocEp, allocEpCall}
 use Rattle.calls.proofs.Steps.{Step, one, Reached, none, then, Sane, Gentle}
-use Rattle.calls.proofs.Accounts.{Account, left, stores, by-test, txModify, rxModify, zeroModify, below}
+use Rattle.calls.proofs.Accounts.{Account, left, stores, by-test, txModify, rxModify, zeroModify, passes, below}
 
 -- the tests of a call, and of one at an endpoint
 abbrev lent : Record → List ℕ → Entry
@@ -40,15 +41,23 @@ lent k l = entryBy (short l) (recordSound k) false
 abbrev lentAt : Record → ℕ → List ℕ → Entry
 lentAt k e l = entryBy (short l) (recordSound k) (beyond k e)
 
+lent-passes : (k : Record) (l : List ℕ) → lent k l ≡ Clear → recordSound k ≡ true
+lent-passes k l c = passes (short l) (recordSound k) false c
+
+at-passes : (k : Record) (e : ℕ) (l : List ℕ) → lentAt k e l ≡ Clear → recordSound k ≡ true
+at-passes k e l c = passes (short l) (recordSound k) (beyond k e) c
+
 -- a call that is refused stores nothing
 module _ {May : Step → Log → Type 0} (k : Record) (l : List ℕ) where
-  unless-refused : (c : ControlState) (g : Log) (t : Entry) → (t ≡ Clear → Reached May (begun k l) g) → Account May k (unless t k l (stored k c g) .call .«record»)
-  unless-refused c g (Refused x) f = left refl refl
-  unless-refused c g Clear f = stores l g (f refl) refl refl
+  unless-refused : (c : ControlState) (g : Log) (t : Entry) → (t ≡ Clear → recordSound k ≡ true) → (t ≡ Clear → Reached May (begun k l) g)
+      → Account May k (unless t k l (stored k c g) .call .«record»)
+  unless-refused c g (Refused x) s f = left refl refl
+  unless-refused c g Clear s f = stores l g (s refl) (f refl) refl refl
 
-  told-unless : (b : Bool) (g : Log) (t : Entry) → (t ≡ Clear → Reached May (begun k l) g) → Account May k (unlessTold t k l (toldOf k b g) .call .«record»)
-  told-unless b g (Refused x) f = left refl refl
-  told-unless b g Clear f = stores l g (f refl) refl refl
+  told-unless : (b : Bool) (g : Log) (t : Entry) → (t ≡ Clear → recordSound k ≡ true) → (t ≡ Clear → Reached May (begun k l) g)
+      → Account May k (unlessTold t k l (toldOf k b g) .call .«record»)
+  told-unless b g (Refused x) s f = left refl refl
+  told-unless b g Clear s f = stores l g (s refl) (f refl) refl refl
 
 -- the calls that leave SendStall alone
 module _ (k : Record) where
@@ -66,27 +75,30 @@ module _ (k : Record) where
   pub bus-init : (l : List ℕ) → Account (Gentle b) k (busInitCall k l .call .«record»)
   unfolding busInitCall busInit
   bus-init l =
-      unless-refused k l (k .«control_state») _ (lent k l)
+      unless-refused k l (k .«control_state») _ (lent k l) (lent-passes k l)
       (λ c. then (then (then none (one intrusbe) (tt, tt)) (one (intre Out 254)) (tt, tt)) (one (intre In 255)) (tt, tt))
 
   pub enable : (l : List ℕ) → Account (Gentle b) k (enableCall k l .call .«record»)
   unfolding enableCall
-  enable l = unless-refused k l (k .«control_state») _ (lent k l) (λ c. then none (one (faddr 0)) (lit≤ tt, tt))
+  enable l = unless-refused k l (k .«control_state») _ (lent k l) (lent-passes k l) (λ c. then none (one (faddr 0)) (lit≤ tt, tt))
 
   pub set-device-address : (a : ℕ) (l : List ℕ) → Account (Gentle b) k (addressCall k a l .call .«record»)
   unfolding addressCall
   set-device-address a l =
       unless-refused k l (k .«control_state») _ (addressEntry (lent k l) (leb a 127))
-      (λ c. then none (one (faddr a)) (leb-true a 127 (passed (lent k l) (leb a 127) c), tt))
+      (λ c. lent-passes k l (passed (lent k l) (leb a 127) c .0))
+      (λ c. then none (one (faddr a)) (leb-true a 127 (passed (lent k l) (leb a 127) c .1), tt))
     where
-      passed : (t : Entry) (fits : Bool) → addressEntry t fits ≡ Clear → fits ≡ true
-      passed t true c = refl
-      passed (Refused x) false c = let z : _≡_ {A = ℕ} 0 1 = cc in absurd (omega arith)
-      passed Clear false c = let z : _≡_ {A = ℕ} 0 1 = cc in absurd (omega arith)
+      passed : (t : Entry) (fits : Bool) → addressEntry t fits ≡ Clear → (t ≡ Clear) × (fits ≡ true)
+      passed (Refused x) fits c = (c, never c)
+      passed Clear true c = (refl, refl)
+      passed Clear false c = never c
 
   pub is-stalled : (e : ℕ) (d : Direction) (l : List ℕ) → Account (Gentle b) k (isStalledCall k e d l .call .«record»)
   unfolding isStalledCall
-  is-stalled e d l = told-unless k l (isStalled d e (begun k l)) _ (lentAt k e l) (λ c. then none (one (index e)) (below k e (short l) (recordSound k) c, tt))
+  is-stalled e d l =
+      told-unless k l (isStalled d e (begun k l)) _ (lentAt k e l) (at-passes k e l)
+      (λ c. then none (one (index e)) (below k e (short l) (recordSound k) c, tt))
 
 -- stalling and the reset call, which write SendStall
 module _ (b : Board) (g : Log) where
@@ -150,15 +162,16 @@ module _ (b : Board) (g : Log) where
   all-made es zero h i r = r
   all-made es (suc n) h i r = used-made n (getD es n blank) _ i (all-made es n h (omega arith) r)
 
+-- each endpoint that is enabled or stalled is one of the board's
 module _ (k : Record) where
   pub set-stalled : (e : ℕ) (d : Direction) (s : Bool) (l : List ℕ) → Account (Sane (k .regs .board)) k (setStalledCall k e d s l .call .«record»)
   unfolding setStalledCall
   set-stalled e d s l =
-      unless-refused k l (afterStall e s (k .«control_state»)) _ (lentAt k e l)
+      unless-refused k l (afterStall e s (k .«control_state»)) _ (lentAt k e l) (at-passes k e l)
       (λ c. stall-made (k .regs .board) (begun k l) d e s (begun k l) (below k e (short l) (recordSound k) c) none)
 
   pub reset : (l : List ℕ) → Account (Sane (k .regs .board)) k (resetCall k l .call .«record»)
   unfolding resetCall resetStores endpointsOf
   reset l =
-      unless-refused k l (idled (k .«control_state»)) _ (lent k l)
+      unless-refused k l (idled (k .«control_state»)) _ (lent k l) (lent-passes k l)
       (λ c. all-made (k .regs .board) (begun k l) (k .endpoints) (length (rows (k .regs .board))) _ (omega arith) (then none (one power) tt))

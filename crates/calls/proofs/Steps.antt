@@ -4,7 +4,6 @@
 use Prim.Native.Nat.{ℕ, _<_, _≤_}
 use mathlib.Core.Path.{_≡_, refl, sym, ap, _∙_}
 use mathlib.Core.Bool.{Bool, true, false, cond}
-use native.Mathlib.Omega.{arith}
 use native.Mathlib.Nat.{le-trans}
 use native.Mathlib.Decide.{ℕ-discrete}
 use borrow.Author.Tests.{eq-eqb, ne-eqb}
@@ -24,7 +23,7 @@ use Rattle.stores.specs.Stores.{Log}
 use Rattle.stores.specs.Promise.{Store, faddr, power, index, csr0l, csr0h, txcsrl, rxcsrl, iso, maxp, intrusbe, intre, packet, does, leaves, selects, addresses}
 use Rattle.stores.proofs.Promises.{sides, rest}
 use Rattle.stores.proofs.Halts.{SameHalts, SameStall, halts}
-use Rattle.calls.proofs.Sides.{Tame, stays-ok, same, either, one-way, alike, tx-tame, rx-tame, zero-tame, dropped-tame}
+use Rattle.calls.proofs.Sides.{clash, Tame, stays-ok, same, either, one-way, alike, tx-tame, rx-tame, zero-tame, dropped-tame}
 
 -- A step is a store, or a packet with the store that sets its ready bit: between these two a length stands with its ready bit clear.
 pub data Step : Type 0 where
@@ -226,9 +225,6 @@ module _ {b : Board} (n : ℕ) (o : Store) (g : Log) (m : Sends b n o g) (k : Ho
     fits = le-trans (tame e In .shorter) (rw (loaded e In) (rw p (packet-here n (g .regs .index) _ _ (m .fits) (k .side (g .regs .index) In .fits))));
     none = λ q. clash (sym (at-index e (p ∙ sym (rest (packet n) g .selected))) ∙ q);
   }
-    where
-      clash : {A : Type 0} → true ≡ false → A
-      clash e = let z : _≡_ {A = ℕ} 0 1 = cc in absurd (omega arith)
 
   -- every other
   elsewhere : (e : ℕ) (d : Direction) → leaves (packet n) (g .regs .index) e d (sideAt (g .regs) e d) ≡ sideAt (g .regs) e d

@@ -3,7 +3,7 @@ use Prim.Native.Nat.{ℕ, _≤_, _<_}
 use mathlib.Core.Path.{_≡_, refl, ap, _∙_}
 use mathlib.Core.Bool.{Bool, true, false, not, _&&_, cond}
 use mathlib.Core.List.{List}
-use native.Mathlib.Omega.{arith}
+use mathlib.Core.Logic.{inr}
 use borrow.Author.Tests.{eq-eqb, eqb-true, ltb-false}
 use lib.Dec.{eqb, ltb}
 use lib.ListN.{length}
@@ -26,10 +26,11 @@ use Rattle.control_state.specs.declared.ControlState.{ControlState}
 use Rattle.control_state.specs.declared.ControlStateEnum.{ControlStateEnum}
 use Rattle.control_state.specs.declared.ControlStateEnum.the-variants.{Idle, Setup, DataIn, DataOut, Accepted, NodataPhase}
 use Rattle.record.specs.declared.Record.{Record}
-use Rattle.record.specs.Record.{areaOf, withControl}
+use Rattle.record.specs.Record.{recordSound, areaOf, withControl}
 use Rattle.usb_device_write.specs.Write.{done, tooLong, untakenIn, notWritable, ownTestsAt, tests, blocked, loaded, nodataPhase, accepted, ended, txSize, dataIn, sentDataIn, sentZero, sentOther, sent, taken, writeCall, Ran}
 use Rattle.usb_device_write.specs.Replies.{Given, done as granted, blocks, beyond, long, untaken, little, unsound}
 use Rattle.usb_device_write.proofs.Answers.{exactly}
+use Rattle.calls.proofs.Sides.{clash}
 use Rattle.calls.proofs.Steps as steps
 use Rattle.calls.proofs.Steps.{Reached, none, then, one, Gentle, Readies}
 use Rattle.calls.proofs.Accounts.{Low, Account, left, stores, by-test, txModify, zeroModify, zero-modifies, there}
@@ -44,7 +45,7 @@ zero-readies h p = at (h .regs .index) p
     at : (i : ℕ) → i ≡ 0 → leaves (zeroModify csr0l.TxPktRdy h) i i In (sideAt (h .regs) i In) .ready ≡ true
     at i z = rw z (ap (λ (s : Side). s .ready) (zero-readied (h .regs)))
 
-module _ (k : Record) (ep n : ℕ) (l : List ℕ) (i : ep < length (rows (k .regs .board))) where
+module _ (k : Record) (ep n : ℕ) (l : List ℕ) (s : recordSound k ≡ true) (i : ep < length (rows (k .regs .board))) where
   abbrev b : Board
   b = k .regs .board
 
@@ -90,7 +91,7 @@ module _ (k : Record) (ep n : ℕ) (l : List ℕ) (i : ep < length (rows (k .reg
   empty-path z = then selects (one (packet n)) (z, tt)
 
   finish : (q : Record) (g : Log) → Path g → (Low b (k .irq) → Low b (q .irq)) → Fine (done n q g)
-  finish q g r f = record { list = l; last = g; path = r; is = refl; flags = f }
+  finish q g r f = record { list = l; last = g; path = r; is = refl; served = inr s; flags = f }
 
   ends : (c : ControlState) (g : Log) → Path g → Fine (ended c n k g)
   unfolding ended
@@ -102,15 +103,12 @@ module _ (k : Record) (ep n : ℕ) (l : List ℕ) (i : ep < length (rows (k .reg
       let c = decreased (k .«control_state») n in
       by-test Fine (eqb (c .«tx_len») 0) (ends _ g r) (by-test Fine (ltb n (txSize k)) (ends _ g r) (finish (withControl k c) g r (λ f. f)))
 
-  not-empty : {A : Type 0} → true ≡ false → A
-  not-empty e = let z : _≡_ {A = ℕ} 0 1 = cc in absurd (omega arith)
-
   empty : not (eqb n 0) ≡ false → n ≡ 0
   empty e = go (eqb n 0) refl e
     where
       go : (z : Bool) → eqb n 0 ≡ z → not z ≡ false → n ≡ 0
       go true p q = eqb-true n 0 p
-      go false p q = not-empty q
+      go false p q = clash q
 
   -- endpoint 0: reply 11 came before wherever a packet would stay without its ready bit
   at-zero : (s : ControlStateEnum) → ep ≡ 0 → n ≤ areaOf k ep In .size → untakenIn s n ≡ false → Fine (sentZero s n k (loaded ep n begun))
@@ -119,9 +117,9 @@ module _ (k : Record) (ep n : ℕ) (l : List ℕ) (i : ep < length (rows (k .reg
       finish (nodataPhase k) _ (empty-path (empty w)) (λ f. (raised-lt _ _ 0 (f .0) (at-least-one b), f .1))
   at-zero DataIn z h w = in-data _ (zero-path h z)
   at-zero Idle z h w = finish (accepted k) _ (empty-path (empty w)) (λ f. f)
-  at-zero Setup z h w = not-empty w
-  at-zero DataOut z h w = not-empty w
-  at-zero Accepted z h w = not-empty w
+  at-zero Setup z h w = clash w
+  at-zero DataOut z h w = clash w
+  at-zero Accepted z h w = clash w
 
   sends : n ≤ areaOf k ep In .size → notWritable k ep n ≡ false → Fine (sent k ep n (loaded ep n begun))
   unfolding sent sentOther notWritable
@@ -141,8 +139,8 @@ module _ (k : Record) (ep : ℕ) (b f l : List ℕ) where
   by-row : {m : ℕ} → Given k ep (length b) (length f) (length l) m → Account (Gentle (k .regs .board)) k (writeCall k ep b f l .result .«record»)
   unfolding writeCall tests ownTestsAt taken blocked
   by-row (granted a s t u) =
-      rw (a .lent, a .passes, a .there, s, t, u) (sends k ep (length b) l (there k ep (a .there)) (not-long t) u)
-  by-row (blocks a s) = rw (a .lent, a .passes, a .there, s) (stores l _ (selects k ep (length b) l (there k ep (a .there))) refl refl)
+      rw (a .lent, a .passes, a .there, s, t, u) (sends k ep (length b) l (a .passes) (there k ep (a .there)) (not-long t) u)
+  by-row (blocks a s) = rw (a .lent, a .passes, a .there, s) (stores l _ (a .passes) (selects k ep (length b) l (a .passes) (there k ep (a .there))) refl refl)
   by-row (beyond p q r) = rw (p, q, r) (left refl refl)
   by-row (long a s t) = rw (a .lent, a .passes, a .there, s, t) (left refl refl)
   by-row (untaken a s t u) = rw (a .lent, a .passes, a .there, s, t, u) (left refl refl)

@@ -37,44 +37,45 @@ pub data Op : Type 0 where
   busReset suspend resume setupEnd : Op
   underrun overrun : ℕ → Op
 
--- All that an operation leaves: document 01's reply number, the record, and every lent buffer that it may write. A buffer that is not
--- lent, or lent only to be read, is [].
+-- All that an operation leaves: document 01's reply number, the record, how many stores it says to have listed, and every lent buffer that
+-- it may write. A buffer that is not lent, or lent only to be read, is [].
 pub record Outcome : Type 0 where
   pub reply : ℕ
   pub «record» : Record
+  pub stores : ℕ
   pub fifo : List ℕ
   pub list : List ℕ
   pub buf : List ℕ
 
 abbrev pub called : impl.Outcome → Outcome
-called o = record { reply = impl.replyNumber (o .call .answer); «record» = o .call .«record»; fifo = []; list = o .list; buf = [] }
+called o = record { reply = impl.replyNumber (o .call .answer); «record» = o .call .«record»; stores = o .call .stores; fifo = []; list = o .list; buf = [] }
 
 abbrev pub told : impl.ToldOutcome → Outcome
-told o = record { reply = impl.toldNumber (o .call .answer); «record» = o .call .«record»; fifo = []; list = o .list; buf = [] }
+told o = record { reply = impl.toldNumber (o .call .answer); «record» = o .call .«record»; stores = o .call .stores; fifo = []; list = o .list; buf = [] }
 
 abbrev pub allocated : AllocEp → Outcome
-allocated o = record { reply = impl.allocationNumber (o .answer); «record» = o .«record»; fifo = []; list = []; buf = [] }
+allocated o = record { reply = impl.allocationNumber (o .answer); «record» = o .«record»; stores = 0; fifo = []; list = []; buf = [] }
 
 abbrev pub written : WriteOutcome → Outcome
-written o = record { reply = wroteNumber (o .result .answer); «record» = o .result .«record»; fifo = o .fifo; list = o .list; buf = [] }
+written o = record { reply = wroteNumber (o .result .answer); «record» = o .result .«record»; stores = o .result .stores; fifo = o .fifo; list = o .list; buf = [] }
 
 abbrev pub fetched : ReadOutcome → Outcome
-fetched o = record { reply = gotNumber (o .result .answer); «record» = o .result .«record»; fifo = []; list = o .list; buf = o .buf }
+fetched o = record { reply = gotNumber (o .result .answer); «record» = o .result .«record»; stores = o .result .stores; fifo = []; list = o .list; buf = o .buf }
 
 abbrev pub polled : PollOutcome → Outcome
-polled o = record { reply = pollNumber (o .result .answer); «record» = o .result .«record»; fifo = []; list = o .list; buf = [] }
+polled o = record { reply = pollNumber (o .result .answer); «record» = o .result .«record»; stores = o .result .stores; fifo = []; list = o .list; buf = [] }
 
 abbrev pub interrupted : OnInterrupt → Outcome
-interrupted o = record { reply = interruptNumber (o .answer); «record» = o .«record»; fifo = []; list = []; buf = [] }
+interrupted o = record { reply = interruptNumber (o .answer); «record» = o .«record»; stores = 0; fifo = []; list = []; buf = [] }
 
 abbrev pub happened : Host → Outcome
-happened o = record { reply = host.happenedNumber (o .answer); «record» = o .«record»; fifo = []; list = []; buf = [] }
+happened o = record { reply = host.happenedNumber (o .answer); «record» = o .«record»; stores = 0; fifo = []; list = []; buf = [] }
 
 abbrev pub arrived : host.Arrival → Outcome
-arrived o = record { reply = host.happenedNumber (o .event .answer); «record» = o .event .«record»; fifo = o .fifo; list = []; buf = [] }
+arrived o = record { reply = host.happenedNumber (o .event .answer); «record» = o .event .«record»; stores = 0; fifo = o .fifo; list = []; buf = [] }
 
 abbrev pub collected : Collected → Outcome
-collected o = record { reply = host.takenNumber (o .answer); «record» = o .«record»; fifo = []; list = []; buf = [] }
+collected o = record { reply = host.takenNumber (o .answer); «record» = o .«record»; stores = 0; fifo = []; list = []; buf = [] }
 
 -- Each call's own definition decides; `forceReset` takes no record, so that it leaves any as it was.
 abbrev pub outcome : Record → Op → Outcome
@@ -89,7 +90,7 @@ outcome k (setStalled e d s l) = called (impl.setStalledCall k e d s l)
 outcome k (isStalled e d l) = told (impl.isStalledCall k e d l)
 outcome k (poll l) = polled (pollCall k l)
 outcome k onInterrupt = interrupted (interruptCall k)
-outcome k forceReset = record { reply = impl.replyNumber impl.forceResetCall; «record» = k; fifo = []; list = []; buf = [] }
+outcome k forceReset = record { reply = impl.replyNumber impl.forceResetCall; «record» = k; stores = 0; fifo = []; list = []; buf = [] }
 outcome k (arrival e b f) = arrived (host.arrivalCall k e b f)
 outcome k (collection e f) = collected (host.collectionCall k e f)
 outcome k busReset = happened (host.busResetCall k)

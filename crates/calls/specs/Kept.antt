@@ -1,9 +1,10 @@
 -- What every operation keeps, and which operations a sentence is about.
 -- Assumes nothing.
 use Rattle.regs.specs.Registers.{Whole}
+use Rattle.stores.proofs.Halts.{SameHalts}
 use Rattle.record.specs.declared.Record.{Record}
 use Rattle.record.specs.Record.{SoundRecord}
-use Rattle.calls.specs.Calls.{Op, allocEp, busInit, enable, reset, setDeviceAddress, write, read, setStalled, isStalled, poll, onInterrupt, forceReset, arrival, collection, busReset, suspend, resume, setupEnd, underrun, overrun}
+use Rattle.calls.specs.Calls.{Op, allocEp, busInit, enable, reset, setDeviceAddress, write, read, setStalled, isStalled, poll, onInterrupt, forceReset, arrival, collection, busReset, suspend, resume, setupEnd, underrun, overrun, step}
 
 -- the record passes reply 16, and has the registers of its six endpoints
 pub record Good (k : Record) : Type 0 where
@@ -55,3 +56,7 @@ WritesStall resume = ⊥
 WritesStall setupEnd = ⊥
 WritesStall (underrun e) = ⊥
 WritesStall (overrun e) = ⊥
+
+-- an operation that writes no SendStall leaves that of endpoints 1 to 5 as it was
+abbrev pub SparesHalts : Record → Op → Type 0
+SparesHalts k o = (WritesStall o → ⊥) → SameHalts (k .regs) (step k o .regs)

@@ -1,0 +1,281 @@
+-- How every operation ends: done, refused by one of its numbers with everything as it was, or blocked. Assumes nothing.
+use Prim.Native.Nat.{ℕ, zero, suc, _≤_}
+use mathlib.Core.Path.{_≡_, refl, sym, ap, _∙_}
+use mathlib.Core.Bool.{Bool, true, false, _||_}
+use mathlib.Core.Logic.{inl, inr}
+use mathlib.Core.List.{List, [], _∷_}
+use native.Mathlib.Omega.{arith}
+use borrow.Author.Tests.{eq-eqb, ne-eqb, ltb-false, leb-true}
+use lib.Dec.{eqb, ltb}
+use lib.ListN.{length, drop}
+use Rattle.board.specs.declared.Board.{Board}
+use Rattle.board.specs.Boards.{rows, at-least-one}
+use Rattle.stores.specs.Stores.{Log, log, listed, INDEX, writeIndex}
+use Rattle.stores.specs.Promise.{index}
+use Rattle.stores.proofs.Promises.{rest}
+use Rattle.stores.proofs.Others.{others}
+use Rattle.alloc_endpoint.specs.declared.EndpointAllocError.{EndpointAllocError}
+use Rattle.alloc_endpoint.specs.declared.EndpointAllocError.the-variants.{EndpointOverflow, InvalidEndpoint, EpDirNotSupported, EpUsed, MaxPacketSizeBiggerThanEpFifoSize}
+use Rattle.alloc_endpoint.specs.declared.Allocated.{Allocated}
+use Rattle.alloc_endpoint.specs.declared.EndpointData.{EndpointData}
+use Rattle.alloc_endpoint.specs.declared.Answer.{Answer}
+use Rattle.alloc_endpoint.specs.declared.Answer.the-variants as answer
+use Rattle.alloc_endpoint.specs.declared.Wanted.{Wanted}
+use Rattle.alloc_endpoint.specs.declared.Wanted.the-variants.{Any, Number}
+use Rattle.alloc_endpoint.specs.Endpoints.{Ask}
+use Rattle.alloc_endpoint.specs.Allocate.{allocate}
+use Rattle.alloc_endpoint.specs.Numbers.{errorNumber, answerNumber}
+use Rattle.alloc_endpoint.specs.Replies as allocation
+use Rattle.alloc_endpoint.proofs.Answers as alloc
+use Rattle.alloc_endpoint.proofs.Changes.{refused-keeps}
+use Rattle.peek.proofs.Readings.{index-stored}
+use Rattle.peek.proofs.Lent.{lent-enough}
+use Rattle.record.specs.declared.Record.{Record}
+use Rattle.record.specs.declared.Refusal.{Refusal}
+use Rattle.record.proofs.Rows.{Row, Given}
+use Rattle.record.specs.Record.{recordSound, refusalNumber, entryBy, withRegs, withEndpoints}
+use Rattle.usb_device_impl.specs.declared.Reply.{Reply}
+use Rattle.usb_device_impl.specs.declared.Reply.the-variants as reply
+use Rattle.usb_device_impl.specs.declared.Told.{Told}
+use Rattle.usb_device_impl.specs.declared.Told.the-variants as tells
+use Rattle.usb_device_impl.specs.Calls as impl
+use Rattle.usb_device_impl.proofs.Replies as simple
+use Rattle.usb_device_write.specs.Write as write-call
+use Rattle.usb_device_write.specs.Replies as write-rows
+use Rattle.usb_device_write.proofs.Answers as writes
+use Rattle.usb_device_read.specs.Read as read-call
+use Rattle.usb_device_read.specs.Replies as read-rows
+use Rattle.usb_device_read.proofs.Answers as reads
+use Rattle.usb_device_interrupt.specs.Interrupt.{interruptBy, interruptCall}
+use Rattle.usb_device_poll.specs.Poll.{PollOutcome, pollNumber, pollWhen, pollCall}
+use Rattle.usb_device_poll.proofs.Answers as polls
+use Rattle.host.specs.declared.Host.{Host}
+use Rattle.host.specs.declared.Happened.{Happened}
+use Rattle.host.specs.declared.Happened.the-variants as happens
+use Rattle.host.specs.declared.Taken.{Taken}
+use Rattle.host.specs.declared.Taken.the-variants as takes
+use Rattle.host.specs.Host as host
+use Rattle.host.proofs.Replies as events
+use Rattle.calls.specs.Calls.{Op, allocEp, busInit, enable, reset, setDeviceAddress, write, read, setStalled, isStalled, poll, onInterrupt, forceReset, arrival, collection, busReset, suspend, resume, setupEnd, underrun, overrun, Outcome, called, told, allocated, polled, interrupted, happened, arrived, collected, outcome}
+use Rattle.calls.specs.Demand.{replies, allocReplies, among, noneLent, listLent, lent, unchanged, selected, Blocking, writing, reading, Answers}
+use Rattle.calls.proofs.Sides.{clash}
+use Rattle.calls.proofs.Listed.{front}
+
+-- x is all that an operation leaves
+pub data Ends (k : Record) (o : Op) (x : Outcome) : Type 0 where
+  done : among 0 (replies o) ≡ true → x .reply ≡ 0 → Ends k o x
+  refused : (n : ℕ) → eqb n 6 ≡ false → among n (replies o) ≡ true → x ≡ unchanged n k (lent o) → Ends k o x
+  blocked : (e : ℕ) → Blocking o e → among 6 (replies o) ≡ true → x ≡ selected e k (lent o) → Ends k o x
+
+-- the numbers of a call's rows in their order, and 0
+abbrev numbers : List Row → List ℕ
+numbers [] = 0 ∷ []
+numbers (r ∷ rs) = refusalNumber (r .reply) ∷ numbers rs
+
+or-right : (a : Bool) → (a || true) ≡ true
+or-right true = refl
+or-right false = refl
+
+zero-among : (rs : List Row) → among 0 (numbers rs) ≡ true
+zero-among [] = refl
+zero-among (r ∷ rs) = rw (zero-among rs) (or-right (eqb 0 (refusalNumber (r .reply))))
+
+given-among : (x : Refusal) (rs : List Row) → Given x rs → among (refusalNumber x) (numbers rs) ≡ true
+given-among x [] g = absurd g
+given-among x (r ∷ rs) (inl g) = rw (eq-eqb (refusalNumber x) (refusalNumber (r .reply)) (ap refusalNumber (sym (g .1))))
+given-among x (r ∷ rs) (inr g) = rw (given-among x rs (g .1)) (or-right (eqb (refusalNumber x) (refusalNumber (r .reply))))
+
+-- a call whose replies are its rows', 6 not among them
+module _ (k : Record) (o : Op) (rs : List Row) (is : numbers rs ≡ replies o) (no-six : among 6 (replies o) ≡ false) where
+  served : {x : Outcome} → x .reply ≡ 0 → Ends k o x
+  served p = done (rw (← is) (zero-among rs)) p
+
+  rejected : (y : Refusal) {x : Outcome} → Given y rs → x ≡ unchanged (refusalNumber y) k (lent o) → Ends k o x
+  rejected y g p =
+      let a : among (refusalNumber y) (replies o) ≡ true = rw (← is) (given-among y rs g) in
+      refused (refusalNumber y) (ne-eqb _ 6 (λ e. clash (sym a ∙ ap (λ (n : ℕ). among n (replies o)) e ∙ no-six))) a p
+
+  called-ends : (l : List ℕ) {a : impl.Outcome} → lent o ≡ listLent l → simple.Answers a k l rs → Ends k o (called a)
+  called-ends l {a} p t = go (a .call .answer) refl
+    where
+      go : (y : Reply) → a .call .answer ≡ y → Ends k o (called a)
+      go reply.Done e = served (ap impl.replyNumber e)
+      go (reply.Refused y) e = rejected y (t .refusals y .0 e) (ap called (t .unchanged y e) ∙ ap (unchanged (refusalNumber y) k) (sym p))
+
+  told-ends : (l : List ℕ) {b : Bool} {a : impl.ToldOutcome} → lent o ≡ listLent l → simple.Tells a k l rs b → Ends k o (told a)
+  told-ends l {b} {a} p t = go (a .call .answer) refl
+    where
+      go : (y : Told) → a .call .answer ≡ y → Ends k o (told a)
+      go (tells.Done c) e = served (ap impl.toldNumber e)
+      go (tells.Refused y) e = rejected y (t .refusals y .0 e) (ap told (t .unchanged y e) ∙ ap (unchanged (refusalNumber y) k) (sym p))
+
+  happened-ends : {a : Host} → lent o ≡ noneLent → events.Answers a k rs → Ends k o (happened a)
+  happened-ends {a} p t = go (a .answer) refl
+    where
+      go : (y : Happened) → a .answer ≡ y → Ends k o (happened a)
+      go happens.Done e = served (ap host.happenedNumber e)
+      go (happens.Refused y) e = rejected y (t .refusals y .0 e) (ap happened (t .unchanged y e) ∙ ap (unchanged (refusalNumber y) k) (sym p))
+
+-- the store that reply 6 has listed, and the endpoint that it has selected
+module _ (k : Record) (e : ℕ) (l : List ℕ) where
+  abbrev chose : Log
+  chose = writeIndex e (log (k .regs) l 0)
+
+  chose-count : chose .count ≡ 1
+  chose-count = others (index e) (log (k .regs) l 0) .count refl
+
+  chose-list : 384 ≤ length l → chose .list ≡ 3 ∷ e ∷ e ∷ drop 3 l
+  chose-list h =
+      others (index e) (log (k .regs) l 0) .list refl
+      ∙ ap (λ (i : ℕ). listed l 0 INDEX i e) (rest (index e) (log (k .regs) l 0) .selected)
+      ∙ front l INDEX e e (omega arith)
+
+  -- the same in write and read, which differ in what else they are lent
+  blocks : (f b : List ℕ) → 384 ≤ length l
+      → record { reply = 6; «record» = withRegs k (chose .regs); stores = chose .count; fifo = f; list = chose .list; buf = b }
+      ≡ selected e k (record { fifo = f; list = l; buf = b })
+  blocks f b h = λ i. record {
+    reply = 6;
+    «record» = withRegs k (index-stored e (log (k .regs) l 0) i);
+    stores = chose-count i;
+    fifo = f;
+    list = chose-list h i;
+    buf = b;
+  }
+
+-- replies 1 to 5: none is 6, and each is among those of the number that is wanted
+error-other : (x : EndpointAllocError) → eqb (errorNumber x) 6 ≡ false
+error-other EndpointOverflow = refl
+error-other InvalidEndpoint = refl
+error-other EpDirNotSupported = refl
+error-other EpUsed = refl
+error-other MaxPacketSizeBiggerThanEpFifoSize = refl
+
+error-among : (b : Board) (es : List EndpointData) (q : Ask) (w : Wanted) (x : EndpointAllocError) → allocation.Given (rows b) es q x w
+    → among (errorNumber x) (allocReplies w) ≡ true
+error-among b es q Any EndpointOverflow g = refl
+error-among b es q Any InvalidEndpoint g = clash (sym g)
+error-among b es q Any MaxPacketSizeBiggerThanEpFifoSize g = clash (sym (g .1))
+error-among b es q Any EpDirNotSupported g = clash (sym (g .2))
+error-among b es q Any EpUsed g = clash (sym (g .3))
+error-among b es q (Number zero) EndpointOverflow g = let z : _≡_ {A = ℕ} 0 1 = cc in absurd (omega arith)
+error-among b es q (Number zero) InvalidEndpoint g = absurd (omega (arith, leb-true (length (rows b)) 0 g, at-least-one b))
+error-among b es q (Number zero) MaxPacketSizeBiggerThanEpFifoSize g = clash (sym (g .1))
+error-among b es q (Number zero) EpDirNotSupported g = clash (sym (g .2))
+error-among b es q (Number zero) EpUsed g = clash (sym (g .3))
+error-among b es q (Number (suc n)) EndpointOverflow g = let z : _≡_ {A = ℕ} 0 1 = cc in absurd (omega arith)
+error-among b es q (Number (suc n)) InvalidEndpoint g = refl
+error-among b es q (Number (suc n)) MaxPacketSizeBiggerThanEpFifoSize g = refl
+error-among b es q (Number (suc n)) EpDirNotSupported g = refl
+error-among b es q (Number (suc n)) EpUsed g = refl
+
+alloc-among : (w : Wanted) → (among 0 (allocReplies w) ≡ true) × (among 16 (allocReplies w) ≡ true)
+alloc-among Any = (refl, refl)
+alloc-among (Number zero) = (refl, refl)
+alloc-among (Number (suc n)) = (refl, refl)
+
+module _ (k : Record) (q : Ask) (w : Wanted) where
+  abbrev given : Allocated
+  given = allocate (rows (k .regs .board)) (k .endpoints) q w
+
+  handed-ends : (a : Answer) → given .answer ≡ a → Ends k (allocEp q w) (allocated (impl.handed k given))
+  handed-ends (answer.Done n) e = done (alloc-among w .0) (ap (λ (a : Answer). impl.allocationNumber (impl.allocated a)) e)
+  handed-ends (answer.Refused x) e =
+      refused (errorNumber x) (error-other x)
+      (error-among (k .regs .board) (k .endpoints) q w x (alloc.exactly (rows (k .regs .board)) (k .endpoints) q w x .0 (ap answerNumber e)))
+      (λ i. allocated (record { answer = impl.allocated (e i); «record» = withEndpoints k (refused-keeps (rows (k .regs .board)) (k .endpoints) q w x e i) }))
+
+  alloc-ends : Ends k (allocEp q w) (outcome k (allocEp q w))
+  unfolding impl.allocEpCall impl.allocEp
+  alloc-ends = go (recordSound k)
+    where
+      go : (p : Bool) → Ends k (allocEp q w) (allocated (impl.unlessAllocated (entryBy false p false) k (impl.allocEp k q w)))
+      go false = refused 16 refl (alloc-among w .1) refl
+      go true = handed-ends (given .answer) refl
+
+-- the operations
+module _ (k : Record) where
+  abbrev Ended : Op → Type 0
+  Ended o = Ends k o (outcome k o)
+
+  write-ends : (e : ℕ) (b f l : List ℕ) {m : ℕ} → write-rows.Given k e (length b) (length f) (length l) m → Ended (write e b f l)
+  unfolding write-call.writeCall write-call.tests write-call.ownTestsAt write-call.blocked
+  write-ends e b f l (write-rows.done a s t u) = done refl (writes.exactly k e b f l 0 .1 (write-rows.done a s t u))
+  write-ends e b f l (write-rows.blocks a s) =
+      rw (a .lent, a .passes, a .there, s) (blocked e (writing e b f l) refl (blocks k e l f [] (lent-enough k (length f) (length l) (a .lent) .1)))
+  write-ends e b f l (write-rows.beyond p q r) = rw (p, q, r) (refused 8 refl refl refl)
+  write-ends e b f l (write-rows.long a s t) = rw (a .lent, a .passes, a .there, s, t) (refused 9 refl refl refl)
+  write-ends e b f l (write-rows.untaken a s t u) = rw (a .lent, a .passes, a .there, s, t, u) (refused 11 refl refl refl)
+  write-ends e b f l (write-rows.little p) = rw p (refused 15 refl refl refl)
+  write-ends e b f l (write-rows.unsound p q) = rw (p, q) (refused 16 refl refl refl)
+
+  read-ends : (e : ℕ) (f l b : List ℕ) {m : ℕ} → read-rows.Given k e (length b) (length f) (length l) m → Ended (read e f l b)
+  unfolding read-call.readCall read-call.tests read-call.ownTestsAt read-call.blocked
+  read-ends e f l b (read-rows.done a s t u) = done refl (reads.exactly k e f l b 0 .1 (read-rows.done a s t u))
+  read-ends e f l b (read-rows.blocks a s) =
+      rw (a .lent, a .passes, a .there, s) (blocked e (reading e f l b) refl (blocks k e l [] b (lent-enough k (length f) (length l) (a .lent) .1)))
+  read-ends e f l b (read-rows.beyond p q r) = rw (p, q, r) (refused 8 refl refl refl)
+  read-ends e f l b (read-rows.unreadable a s t) = rw (a .lent, a .passes, a .there, s, t) (refused 12 refl refl refl)
+  read-ends e f l b (read-rows.unset a s t u) = rw (a .lent, a .passes, a .there, s, t, u) (refused 13 refl refl refl)
+  read-ends e f l b (read-rows.little p) = rw p (refused 15 refl refl refl)
+  read-ends e f l b (read-rows.unsound p q) = rw (p, q) (refused 16 refl refl refl)
+
+  poll-ends : (l : List ℕ) → Ended (poll l)
+  unfolding pollCall
+  poll-ends l = go (ltb (length l) 384) (recordSound k) refl refl
+    where
+      go : (s p : Bool) → ltb (length l) 384 ≡ s → recordSound k ≡ p → Ends k (poll l) (polled (pollWhen (entryBy s p false) k l))
+      go true p x y = refused 15 refl refl refl
+      go false false x y = refused 16 refl refl refl
+      go false true x y =
+          done refl (sym (ap (λ (o : PollOutcome). pollNumber (o .result .answer)) (polls.served k l (ltb-false _ _ x) y)) ∙ polls.zero-reply k l (ltb-false _ _ x) y)
+
+  interrupt-ends : Ended onInterrupt
+  unfolding interruptCall
+  interrupt-ends = go (recordSound k)
+    where
+      go : (p : Bool) → Ends k onInterrupt (interrupted (interruptBy p k))
+      go true = done refl refl
+      go false = refused 16 refl refl refl
+
+  arrival-ends : (e : ℕ) (b f : List ℕ) → Ended (arrival e b f)
+  arrival-ends e b f = go (host.arrivalCall k e b f .event .answer) refl
+    where
+      go : (y : Happened) → host.arrivalCall k e b f .event .answer ≡ y → Ended (arrival e b f)
+      go happens.Done p = served k (arrival e b f) (events.arrivalRows k e (length b) (length f)) refl refl (ap host.happenedNumber p)
+      go (happens.Refused y) p =
+          let t = events.arrival k e b f in
+          rejected k (arrival e b f) (events.arrivalRows k e (length b) (length f)) refl refl y (t .event .refusals y .0 p)
+          (λ i. arrived (record { event = t .event .unchanged y p i; fifo = t .kept y p i }))
+
+  collection-ends : (e : ℕ) (f : List ℕ) → Ended (collection e f)
+  collection-ends e f = go (host.collectionCall k e f .answer) refl
+    where
+      go : (y : Taken) → host.collectionCall k e f .answer ≡ y → Ended (collection e f)
+      go (takes.Done s n) p = served k (collection e f) (events.collectionRows k e (length f)) refl refl (ap host.takenNumber p)
+      go (takes.Refused y) p =
+          let t = events.collection k e f in
+          rejected k (collection e f) (events.collectionRows k e (length f)) refl refl y (t .refusals y .0 p)
+          (λ i. collected (record { answer = p i; «record» = t .unchanged y p i }))
+
+  pub ends : (o : Op) → Ended o
+  ends (busInit l) = called-ends k (busInit l) (simple.listRows k l) refl refl l refl (simple.bus-init k l)
+  ends (enable l) = called-ends k (enable l) (simple.listRows k l) refl refl l refl (simple.enable k l)
+  ends (reset l) = called-ends k (reset l) (simple.listRows k l) refl refl l refl (simple.reset k l)
+  ends (setDeviceAddress a l) = called-ends k (setDeviceAddress a l) (simple.addressRows k a l) refl refl l refl (simple.set-device-address k l a)
+  ends (setStalled e d s l) = called-ends k (setStalled e d s l) (simple.endpointRows k e l) refl refl l refl (simple.set-stalled k l e d s)
+  ends (isStalled e d l) = told-ends k (isStalled e d l) (simple.endpointRows k e l) refl refl l refl (simple.is-stalled k e d l)
+  ends busReset = happened-ends k busReset (events.plainRows k) refl refl refl (events.bus-reset k)
+  ends suspend = happened-ends k suspend (events.plainRows k) refl refl refl (events.suspend k)
+  ends resume = happened-ends k resume (events.plainRows k) refl refl refl (events.resume k)
+  ends setupEnd = happened-ends k setupEnd (events.plainRows k) refl refl refl (events.setup-end k)
+  ends (underrun e) = happened-ends k (underrun e) (events.missRows k e) refl refl refl (events.underrun k e)
+  ends (overrun e) = happened-ends k (overrun e) (events.missRows k e) refl refl refl (events.overrun k e)
+  ends (arrival e b f) = arrival-ends e b f
+  ends (collection e f) = collection-ends e f
+  ends (write e b f l) = write-ends e b f l (writes.exactly k e b f l _ .0 refl)
+  ends (read e f l b) = read-ends e f l b (reads.exactly k e f l b _ .0 refl)
+  ends (poll l) = poll-ends l
+  ends onInterrupt = interrupt-ends
+  ends forceReset = refused 7 refl refl refl
+  ends (allocEp q w) = alloc-ends k q w
