@@ -8,7 +8,7 @@ use lib.Dec.{eqb}
 use Rattle.record.specs.declared.Record.{Record}
 use Rattle.calls.specs.Calls.{Op, Outcome, outcome}
 use Rattle.calls.specs.Demand.{lent, unchanged, Answers}
-use Rattle.calls.proofs.Sides.{clash}
+use Rattle.laws.proofs.Tests.{clash}
 use Rattle.calls.proofs.Ends.{Ends, done, refused, blocked, ends}
 
 module _ (k : Record) (o : Op) where

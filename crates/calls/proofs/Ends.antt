@@ -12,7 +12,7 @@ use Rattle.board.specs.declared.Board.{Board}
 use Rattle.board.specs.Boards.{rows, at-least-one}
 use Rattle.stores.specs.Stores.{Log, log, listed, INDEX, writeIndex}
 use Rattle.stores.specs.Promise.{index}
-use Rattle.stores.proofs.Promises.{rest}
+use Rattle.stores.proofs.Promises.{rest, listed-first}
 use Rattle.stores.proofs.Others.{others}
 use Rattle.alloc_endpoint.specs.declared.EndpointAllocError.{EndpointAllocError}
 use Rattle.alloc_endpoint.specs.declared.EndpointAllocError.the-variants.{EndpointOverflow, InvalidEndpoint, EpDirNotSupported, EpUsed, MaxPacketSizeBiggerThanEpFifoSize}
@@ -58,8 +58,7 @@ use Rattle.host.specs.Host as host
 use Rattle.host.proofs.Replies as events
 use Rattle.calls.specs.Calls.{Op, allocEp, busInit, enable, reset, setDeviceAddress, write, read, setStalled, isStalled, poll, onInterrupt, forceReset, arrival, collection, busReset, suspend, resume, setupEnd, underrun, overrun, Outcome, called, told, allocated, polled, interrupted, happened, arrived, collected, outcome}
 use Rattle.calls.specs.Demand.{replies, allocReplies, among, noneLent, listLent, lent, unchanged, selected, Blocking, writing, reading, Answers}
-use Rattle.calls.proofs.Sides.{clash}
-use Rattle.calls.proofs.Listed.{front}
+use Rattle.laws.proofs.Tests.{clash}
 
 -- x is all that an operation leaves
 pub data Ends (k : Record) (o : Op) (x : Outcome) : Type 0 where
@@ -128,7 +127,7 @@ module _ (k : Record) (e : ℕ) (l : List ℕ) where
   chose-list h =
       others (index e) (log (k .regs) l 0) .list refl
       ∙ ap (λ (i : ℕ). listed l 0 INDEX i e) (rest (index e) (log (k .regs) l 0) .selected)
-      ∙ front l INDEX e e (omega arith)
+      ∙ listed-first l INDEX e e (omega arith)
 
   -- the same in write and read, which differ in what else they are lent
   blocks : (f b : List ℕ) → 384 ≤ length l

@@ -32,7 +32,8 @@ use Rattle.host.specs.Host as host
 use Rattle.host.proofs.Laws as laws
 use Rattle.usb_device_interrupt.specs.Interrupt.{cleared, snapshotOf, interrupted}
 use Rattle.usb_device_interrupt.proofs.Flags.{taken-low}
-use Rattle.calls.proofs.Sides.{clash, stays-ok, alike, either, one-way, dropped-tame}
+use Rattle.laws.proofs.Tests.{clash}
+use Rattle.regs.proofs.Tame.{stays-ok, alike, either, one-way, dropped-tame}
 use Rattle.calls.proofs.Steps.{Standing, Holds}
 use Rattle.calls.proofs.Accounts.{Low, there}
 

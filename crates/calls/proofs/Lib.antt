@@ -1,4 +1,3 @@
-pub mod Sides
 pub mod Steps
 pub mod Accounts
 pub mod Simple
@@ -8,6 +7,5 @@ pub mod Polling
 pub mod Happening
 pub mod Kept
 pub mod Halts
-pub mod Listed
 pub mod Ends
 pub mod Demand

@@ -32,7 +32,7 @@ use Rattle.record.specs.Record.{recordSound, entryBy}
 use Rattle.record.proofs.Passing.{record-is-sound}
 use Rattle.usb_device_poll.specs.Round.{Round, round, Walk, walk, withEp0, sentBy, setupTaken, restarted, cutShort, receivedBy, zeroBy, zeroServed, endpointZero, putBack, acceptedBy, acceptStep, readyAt, drained, visit, walked}
 use Rattle.usb_device_poll.specs.Poll.{PollOutcome, ended, walkedOn, acceptedOn, roundOut, pollBy, pollLogged, pollServed, pollWhen, pollCall}
-use Rattle.calls.proofs.Sides.{clash}
+use Rattle.laws.proofs.Tests.{clash}
 use Rattle.calls.proofs.Steps.{Reached, none, then, one, Gentle}
 use Rattle.calls.proofs.Accounts.{Low, Account, left, by-test, tx-modifies, rx-modifies, zero-modifies, passes}
 

@@ -30,7 +30,7 @@ use Rattle.record.specs.Record.{recordSound, areaOf, withControl}
 use Rattle.usb_device_write.specs.Write.{done, tooLong, untakenIn, notWritable, ownTestsAt, tests, blocked, loaded, nodataPhase, accepted, ended, txSize, dataIn, sentDataIn, sentZero, sentOther, sent, taken, writeCall, Ran}
 use Rattle.usb_device_write.specs.Replies.{Given, done as granted, blocks, beyond, long, untaken, little, unsound}
 use Rattle.usb_device_write.proofs.Answers.{exactly}
-use Rattle.calls.proofs.Sides.{clash}
+use Rattle.laws.proofs.Tests.{clash}
 use Rattle.calls.proofs.Steps as steps
 use Rattle.calls.proofs.Steps.{Reached, none, then, one, Gentle, Readies}
 use Rattle.calls.proofs.Accounts.{Low, Account, left, stores, by-test, txModify, zeroModify, zero-modifies, there}

@@ -17,7 +17,7 @@ use Rattle.rounds.specs.Machine.{isInterrupt}
 use Rattle.rounds.specs.Sentences.{Endpoint}
 use Rattle.rounds.proofs.Lawful.{Does}
 use Rattle.history.specs.Driver.{interruptEvent, driver}
-use Rattle.history.proofs.Taken.{takes, none-due}
+use Rattle.usb_device_interrupt.proofs.Taken.{takes, none-due}
 use Rattle.history.proofs.Look.{look, Kept, below}
 
 module _ (b : Board) (k : Record) (kept : Kept b k) where

@@ -1,5 +1,4 @@
 pub mod Flags
-pub mod Taken
 pub mod Ready
 pub mod Look
 pub mod Polls

@@ -1,11 +1,9 @@
 -- What the step laws look at in the driver's record, and what every record of a history is. Assumes nothing.
-use mathlib.Core.Path.{_≡_, ap, subst}
+use mathlib.Core.Path.{_≡_, ap}
 use mathlib.Core.List.{List}
-use Prim.Native.Nat.{ℕ, _+_, _-_, _%_, _/_, _^_, _≤_, _<_}
-use native.Mathlib.Nat.{le-trans, lt-of-not-le, div-eq-of-lt}
+use Prim.Native.Nat.{ℕ, _+_, _-_, _^_, _<_}
+use native.Mathlib.Nat.{le-trans}
 use native.Mathlib.Omega.{arith}
-use native.Mathlib.Decide.{decLe}
-use lib.Dec.{T, eqb}
 use lib.Pow.{pow-mono}
 use lib.ListN.{length}
 use Rattle.laws.specs.Words.{bit}
@@ -24,17 +22,6 @@ use Rattle.history.proofs.Flags.{Alike}
 -- the customer's "1 to 5": the display's highest endpoint
 pub one-to-five : driver Display .top ≡ 5
 one-to-five = ap (λ (t : List Row). length t - 1) rows-display
-
--- a word below 2 ^ n has no bit from n on
-pub bit-below : (w n j : ℕ) → w < 2 ^ n → T (bit w j) → j < n
-unfolding bit
-bit-below w n j h t = go (decLe n j)
-  where
-    go : Dec (n ≤ j) → j < n
-    go (yes le) =
-        let none : w / 2 ^ j ≡ 0 = div-eq-of-lt (le-trans h (pow-mono le)) in
-        absurd (subst (λ (x : ℕ). T (eqb (x % 2) 1)) none t)
-    go (no lt) = lt-of-not-le lt
 
 module _ (b : Board) where
   abbrev pub look : Look (driver b)

@@ -9,7 +9,7 @@ use lib.Dec.{T, not-T, eqb, ltb}
 use lib.ListN.{length}
 use borrow.Author.Tests.{eqb-true, le-ltb}
 use Rattle.laws.specs.Words.{bit}
-use Rattle.laws.proofs.Words.{bit-zero}
+use Rattle.laws.proofs.Words.{bit-zero, bit-below}
 use Rattle.board.specs.declared.Board.{Board}
 use Rattle.board.specs.declared.Direction.the-variants.{Out}
 use Rattle.board.specs.Boards.{rows, at-most-six, at-least-one}
@@ -32,7 +32,7 @@ use Rattle.rounds.proofs.Lawful.{PutDown, Rounds, Pauses, Does, unchanged}
 use Rattle.history.specs.Driver.{resultEvent, pollEvent, driver}
 use Rattle.history.proofs.Flags.{Alike, then, zero-step, accept-step}
 use Rattle.history.proofs.Ready.{Waits, overrun-checked, zero-served, walk-leaves}
-use Rattle.history.proofs.Look.{look, Kept, bit-below, low, receive-bound, small}
+use Rattle.history.proofs.Look.{look, Kept, low, receive-bound, small}
 
 -- None is given when all masks are 0, so that it names what its masks would
 none-named : (w : ℕ) → w ≡ 0 → (λ (e : ℕ). false) ≡ bit w

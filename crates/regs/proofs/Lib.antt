@@ -3,3 +3,4 @@ pub mod Modified
 pub mod Sides
 pub mod Readings
 pub mod Soundness
+pub mod Tame

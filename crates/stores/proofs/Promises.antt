@@ -6,9 +6,9 @@ use native.Mathlib.Omega.{arith}
 use native.Mathlib.Decide.{ℕ-discrete}
 use borrow.Author.Tests.{eq-eqb, ne-eqb}
 use lib.Dec.{eqb, lit<}
-use lib.ListN.{getD, set}
+use lib.ListN.{length, getD, set, drop}
 use lib.Seq.{getD-set-other}
-use mathlib.Core.List.{List}
+use mathlib.Core.List.{List, [], _∷_}
 use mathlib.Core.Logic.{_⊎_, inl, inr}
 use Rattle.laws.specs.Words.{raised}
 use Rattle.board.specs.declared.Direction.{Direction}
@@ -154,3 +154,11 @@ listed-other l n a e v i z h =
     getD-set-other (set (set l (n * 3) a) (n * 3 + 1) e) (n * 3 + 2) i v z (far i n 2 (lit< tt) h)
     ∙ getD-set-other (set l (n * 3) a) (n * 3 + 1) i e z (far i n 1 (lit< tt) h)
     ∙ getD-set-other l (n * 3) i a z (λ (p : i ≡ n * 3). far i n 0 (lit< tt) h (omega arith))
+
+-- the first store of a list
+pub listed-first : (l : List ℕ) (register endpoint value : ℕ) → 3 ≤ length l → listed l 0 register endpoint value ≡ register ∷ endpoint ∷ value ∷ drop 3 l
+unfolding listed
+listed-first [] r e v h = absurd (omega arith)
+listed-first (a ∷ []) r e v h = absurd (omega arith)
+listed-first (a ∷ b ∷ []) r e v h = absurd (omega arith)
+listed-first (a ∷ b ∷ c ∷ l) r e v h = refl

@@ -1,25 +1,22 @@
 -- A change of a side that makes no waiting length longer, and leaves none where the ready bit is clear: what reply 16 asks of a side then
--- stays. The two laws on endpoint 0 are the model's, and stand here with their one user.
+-- stays.
 -- Assumes nothing.
 use Prim.Native.Nat.{ℕ, _≤_}
 use mathlib.Core.Path.{_≡_, refl, sym, _∙_}
 use mathlib.Core.Bool.{Bool, true, false, _||_, cond}
 use native.Mathlib.Omega.{arith}
 use native.Mathlib.Nat.{le-trans}
-use Rattle.laws.proofs.Tests.{and-one}
+use Rattle.laws.proofs.Tests.{clash, and-one}
 use Rattle.board.specs.declared.Direction.{Direction}
 use Rattle.board.specs.declared.Direction.the-variants.{Out, In}
 use Rattle.regs.specs.declared.Side.{Side}
 use Rattle.regs.specs.declared.control.Csr0l.{Csr0l}
 use Rattle.regs.specs.declared.control.Txcsrl.{Txcsrl}
 use Rattle.regs.specs.declared.control.Rxcsrl.{Rxcsrl}
 use Rattle.regs.specs.Registers.{towards}
 use Rattle.regs.specs.Control.{txStored, rxStored, zeroTxStored, dropped}
 use Rattle.regs.specs.Sound.{SideOk}
 use Rattle.regs.proofs.AsWritten.{ready-set, ready-kept, packet-kept, flushed, rx-cleared, rx-kept, rx-flushed}
-
-pub clash : {A : Type 0} → true ≡ false → A
-clash e = let z : _≡_ {A = ℕ} 0 1 = cc in absurd (omega arith)
 
 pub record Tame (s t : Side) : Type 0 where
   pub shorter : t .len ≤ s .len
