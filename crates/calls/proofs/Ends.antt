@@ -12,7 +12,7 @@ use Rattle.board.specs.declared.Board.{Board}
 use Rattle.board.specs.Boards.{rows, at-least-one}
 use Rattle.stores.specs.Stores.{Log, log, listed, INDEX, writeIndex}
 use Rattle.stores.specs.Promise.{index}
-use Rattle.stores.proofs.Promises.{rest, listed-first}
+use Rattle.stores.proofs.Promises.{index-selects, rest, listed-first}
 use Rattle.stores.proofs.Others.{others}
 use Rattle.alloc_endpoint.specs.declared.EndpointAllocError.{EndpointAllocError}
 use Rattle.alloc_endpoint.specs.declared.EndpointAllocError.the-variants.{EndpointOverflow, InvalidEndpoint, EpDirNotSupported, EpUsed, MaxPacketSizeBiggerThanEpFifoSize}
@@ -28,7 +28,6 @@ use Rattle.alloc_endpoint.specs.Numbers.{errorNumber, answerNumber}
 use Rattle.alloc_endpoint.specs.Replies as allocation
 use Rattle.alloc_endpoint.proofs.Answers as alloc
 use Rattle.alloc_endpoint.proofs.Changes.{refused-keeps}
-use Rattle.peek.proofs.Readings.{index-stored}
 use Rattle.peek.proofs.Lent.{lent-enough}
 use Rattle.record.specs.declared.Record.{Record}
 use Rattle.record.specs.declared.Refusal.{Refusal}
@@ -135,7 +134,7 @@ module _ (k : Record) (e : ℕ) (l : List ℕ) where
       ≡ selected e k (record { fifo = f; list = l; buf = b })
   blocks f b h = λ i. record {
     reply = 6;
-    «record» = withRegs k (index-stored e (log (k .regs) l 0) i);
+    «record» = withRegs k (index-selects e (log (k .regs) l 0) i);
     stores = chose-count i;
     fifo = f;
     list = chose-list h i;

@@ -5,7 +5,7 @@ use mathlib.Core.Logic.{_⊎_, inl, inr}
 use Rattle.regs.specs.declared.Regs.{Regs}
 use Rattle.regs.specs.declared.Side.{Side}
 use Rattle.regs.specs.Registers.{Whole, sideAt}
-use Rattle.stores.proofs.Halts.{SameHalts}
+use Rattle.stores.specs.Promise.{SameHalts}
 use Rattle.events.proofs.Halts as events
 use Rattle.record.specs.declared.Record.{Record}
 use Rattle.record.specs.Record.{recordSound}

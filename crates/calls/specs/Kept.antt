@@ -1,7 +1,7 @@
 -- What every operation keeps, and which operations a sentence is about.
 -- Assumes nothing.
 use Rattle.regs.specs.Registers.{Whole}
-use Rattle.stores.proofs.Halts.{SameHalts}
+use Rattle.stores.specs.Promise.{SameHalts}
 use Rattle.record.specs.declared.Record.{Record}
 use Rattle.record.specs.Record.{SoundRecord}
 use Rattle.calls.specs.Calls.{Op, allocEp, busInit, enable, reset, setDeviceAddress, write, read, setStalled, isStalled, poll, onInterrupt, forceReset, arrival, collection, busReset, suspend, resume, setupEnd, underrun, overrun, step}
