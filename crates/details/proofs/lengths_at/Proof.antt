@@ -1,6 +1,7 @@
 -- `details::lengths_at` meets its contract.
 -- Assumes nothing.
 use Rattle.details.specs.Numbers.{lengthsAt}
+use mathlib.Core.List.{[], _∷_}
 use borrow.Author.Needs.{needs}
 use Rattle.details.proofs.lengths_at.Statement.{statement}
 use Rattle.details.proofs.lengths_at.Tie as tie
@@ -19,7 +20,10 @@ cast-t7 c = search needs
 
 returns : tie.Need-returns
 unfolding lengthsAt
-returns c = cc
+returns c =
+    let tx = c .before .before .before .side-at .ensures in
+    let rx = c .before .before .side-at2 .ensures in
+    λ i. tx i .len ∷ rx i .len ∷ []
 
 pub lengths-at-spec : {M : Type 1} → statement M
 lengths-at-spec = tie.close (tie.spec side-at-requires side-at-requires-2 cast-t6 cast-t7 returns)
