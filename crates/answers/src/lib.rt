@@ -1,17 +1,27 @@
 // The line of an entry that was carried out: its code, and the reply and values of its answer (document 01, 'Event trace').
 // A refused entry shows code and reply only. Each function gives the length of its line, which stands at the front of the lent buffer.
 use alloc_endpoint::EndpointAllocError;
+use host::Collected;
 use host::Happened;
+use host::Host;
 use host::Taken;
+use record::Record;
 use record::Refusal;
+use usb_device_impl::AllocEp;
 use usb_device_impl::Allocation;
+use usb_device_impl::Called;
+use usb_device_impl::IsStalled;
 use usb_device_impl::Reply;
 use usb_device_impl::Told;
 use usb_device_interrupt::Interrupted;
+use usb_device_interrupt::OnInterrupt;
 use usb_device_poll::Masks;
 use usb_device_poll::PollAnswer;
 use usb_device_poll::PollResult;
+use usb_device_poll::Polled;
+use usb_device_read::Fetched;
 use usb_device_read::Got;
+use usb_device_write::Written;
 use usb_device_write::Wrote;
 ghost use mathlib.Core.Path.{_≡_};
 ghost use mathlib.Core.Bool.{cond};
@@ -27,7 +37,7 @@ ghost use Rattle.usb_device_read.specs.Read.{gotNumber, gotValues};
 ghost use Rattle.usb_device_poll.specs.Poll.{pollNumber, pollValues, resultValues};
 ghost use Rattle.usb_device_interrupt.specs.Interrupt.{interruptNumber};
 ghost use Rattle.host.specs.Host.{happenedNumber, takenNumber, takenValues, InBuffer};
-ghost use Rattle.answers.specs.Shown.{Shows, wroteFits, gotFits};
+ghost use Rattle.answers.specs.Shown.{Shows, Gives, wroteFits, gotFits};
 
 fn wide(x: u8) -> u32
     ensures { λ r. ⌜ r ≡ x ⌝ }
@@ -66,21 +76,21 @@ fn show_refusal(line: &mut [u8], code: u8, x: Refusal) -> usize
     report::reply_line(line, code, record::refusal_number(x))
 }
 
-pub fn show_reply(line: &mut [u8], code: u8, a: Reply) -> usize
+fn show_reply(line: &mut [u8], code: u8, a: Reply) -> usize
     requires { ⌜ 100 ≤ length (now line) ⌝ }
     ensures { λ r. ⌜ Shows (now (line .entry)) (now (line .exit)) r code (replyNumber a) [] ⌝ }
 {
     report::reply_line(line, code, usb_device_impl::reply_number(a))
 }
 
-pub fn show_happened(line: &mut [u8], code: u8, a: Happened) -> usize
+fn show_happened(line: &mut [u8], code: u8, a: Happened) -> usize
     requires { ⌜ 100 ≤ length (now line) ⌝ }
     ensures { λ r. ⌜ Shows (now (line .entry)) (now (line .exit)) r code (happenedNumber a) [] ⌝ }
 {
     report::reply_line(line, code, host::happened_number(a))
 }
 
-pub fn show_interrupted(line: &mut [u8], code: u8, a: Interrupted) -> usize
+fn show_interrupted(line: &mut [u8], code: u8, a: Interrupted) -> usize
     requires { ⌜ 100 ≤ length (now line) ⌝ }
     ensures { λ r. ⌜ Shows (now (line .entry)) (now (line .exit)) r code (interruptNumber a) [] ⌝ }
 {
@@ -91,7 +101,7 @@ pub fn show_interrupted(line: &mut [u8], code: u8, a: Interrupted) -> usize
 }
 
 // "the endpoint"
-pub fn show_allocation(line: &mut [u8], code: u8, a: Allocation) -> usize
+fn show_allocation(line: &mut [u8], code: u8, a: Allocation) -> usize
     requires { ⌜ 100 ≤ length (now line) ⌝ }
     ensures { λ r. ⌜ Shows (now (line .entry)) (now (line .exit)) r code (allocationNumber a) (allocationValues a) ⌝ }
 {
@@ -103,7 +113,7 @@ pub fn show_allocation(line: &mut [u8], code: u8, a: Allocation) -> usize
 }
 
 // "0 or 1"
-pub fn show_told(line: &mut [u8], code: u8, a: Told) -> usize
+fn show_told(line: &mut [u8], code: u8, a: Told) -> usize
     requires { ⌜ 100 ≤ length (now line) ⌝ }
     ensures { λ r. ⌜ Shows (now (line .entry)) (now (line .exit)) r code (toldNumber a) (toldValues a) ⌝ }
 {
@@ -114,7 +124,7 @@ pub fn show_told(line: &mut [u8], code: u8, a: Told) -> usize
 }
 
 // "written length"
-pub fn show_wrote(line: &mut [u8], code: u8, a: Wrote) -> usize
+fn show_wrote(line: &mut [u8], code: u8, a: Wrote) -> usize
     requires { ⌜ (100 ≤ length (now line)) × wroteFits a ⌝ }
     ensures { λ r. ⌜ Shows (now (line .entry)) (now (line .exit)) r code (wroteNumber a) (wroteValues a) ⌝ }
 {
@@ -133,7 +143,7 @@ fn show_stored(line: &mut [u8], code: u8, n: usize, buf: &[u8]) -> usize
 }
 
 // "for reads the count then stored bytes", which stand at the front of the read's buffer
-pub fn show_got(line: &mut [u8], code: u8, a: Got, buf: &[u8]) -> usize
+fn show_got(line: &mut [u8], code: u8, a: Got, buf: &[u8]) -> usize
     requires { ⌜ (100 + 4 * length (now buf) ≤ length (now line)) × gotFits a ⌝ }
     ensures { λ r. ⌜ Shows (now (line .entry)) (now (line .exit)) r code (gotNumber a) (gotValues a (now (buf .entry))) ⌝ }
 {
@@ -165,7 +175,7 @@ fn show_result(line: &mut [u8], code: u8, a: PollResult) -> usize
     }
 }
 
-pub fn show_poll(line: &mut [u8], code: u8, a: PollAnswer) -> usize
+fn show_poll(line: &mut [u8], code: u8, a: PollAnswer) -> usize
     requires { ⌜ 100 ≤ length (now line) ⌝ }
     ensures { λ r. ⌜ Shows (now (line .entry)) (now (line .exit)) r code (pollNumber a) (pollValues a) ⌝ }
 {
@@ -184,12 +194,145 @@ fn show_part(line: &mut [u8], code: u8, start: usize, len: usize, fifo: &[u8]) -
 }
 
 // "for collect the bytes", at the place that the collection gave
-pub fn show_taken(line: &mut [u8], code: u8, a: Taken, fifo: &[u8]) -> usize
+fn show_taken(line: &mut [u8], code: u8, a: Taken, fifo: &[u8]) -> usize
     requires { ⌜ (100 + 4 * length (now fifo) ≤ length (now line)) × InBuffer a (now fifo) ⌝ }
     ensures { λ r. ⌜ Shows (now (line .entry)) (now (line .exit)) r code (takenNumber a) (takenValues a (now (fifo .entry))) ⌝ }
 {
     match a {
         Taken::Done(start, len) => show_part(line, code, start, len, fifo),
         Taken::Refused(x) => show_refusal(line, code, x),
+    }
+}
+
+// The record, how many stores stand in the list, and how long the line is.
+pub struct Acted {
+    pub record: Record,
+    pub stores: usize,
+    pub len: usize,
+}
+
+pub fn called(line: &mut [u8], code: u8, o: Called) -> Acted
+    requires { ⌜ 100 ≤ length (now line) ⌝ }
+    ensures { λ r. ⌜ Gives (now (line .entry)) (now (line .exit)) r code (o .«record») (o .stores) (replyNumber (o .answer)) [] ⌝ }
+{
+    let a = o.answer;
+    let k = o.record;
+    let len = show_reply(line, code, a);
+    Acted {
+        record: k,
+        stores: o.stores,
+        len,
+    }
+}
+
+pub fn allocated(line: &mut [u8], code: u8, o: AllocEp) -> Acted
+    requires { ⌜ 100 ≤ length (now line) ⌝ }
+    ensures { λ r. ⌜ Gives (now (line .entry)) (now (line .exit)) r code (o .«record») 0 (allocationNumber (o .answer)) (allocationValues (o .answer)) ⌝ }
+{
+    let a = o.answer;
+    let k = o.record;
+    let len = show_allocation(line, code, a);
+    Acted {
+        record: k,
+        stores: 0,
+        len,
+    }
+}
+
+pub fn told(line: &mut [u8], code: u8, o: IsStalled) -> Acted
+    requires { ⌜ 100 ≤ length (now line) ⌝ }
+    ensures { λ r. ⌜ Gives (now (line .entry)) (now (line .exit)) r code (o .«record») (o .stores) (toldNumber (o .answer)) (toldValues (o .answer)) ⌝ }
+{
+    let a = o.answer;
+    let k = o.record;
+    let len = show_told(line, code, a);
+    Acted {
+        record: k,
+        stores: o.stores,
+        len,
+    }
+}
+
+pub fn wrote(line: &mut [u8], code: u8, o: Written) -> Acted
+    requires { ⌜ (100 ≤ length (now line)) × wroteFits (o .answer) ⌝ }
+    ensures { λ r. ⌜ Gives (now (line .entry)) (now (line .exit)) r code (o .«record») (o .stores) (wroteNumber (o .answer)) (wroteValues (o .answer)) ⌝ }
+{
+    let a = o.answer;
+    let k = o.record;
+    let len = show_wrote(line, code, a);
+    Acted {
+        record: k,
+        stores: o.stores,
+        len,
+    }
+}
+
+pub fn got(line: &mut [u8], code: u8, o: Fetched, buf: &[u8]) -> Acted
+    requires { ⌜ (100 + 4 * length (now buf) ≤ length (now line)) × gotFits (o .answer) ⌝ }
+    ensures { λ r. ⌜ Gives (now (line .entry)) (now (line .exit)) r code (o .«record») (o .stores) (gotNumber (o .answer)) (gotValues (o .answer) (now (buf .entry))) ⌝ }
+{
+    let a = o.answer;
+    let k = o.record;
+    let len = show_got(line, code, a, buf);
+    Acted {
+        record: k,
+        stores: o.stores,
+        len,
+    }
+}
+
+pub fn polled(line: &mut [u8], code: u8, o: Polled) -> Acted
+    requires { ⌜ 100 ≤ length (now line) ⌝ }
+    ensures { λ r. ⌜ Gives (now (line .entry)) (now (line .exit)) r code (o .«record») (o .stores) (pollNumber (o .answer)) (pollValues (o .answer)) ⌝ }
+{
+    let a = o.answer;
+    let k = o.record;
+    let len = show_poll(line, code, a);
+    Acted {
+        record: k,
+        stores: o.stores,
+        len,
+    }
+}
+
+pub fn interrupted(line: &mut [u8], code: u8, o: OnInterrupt) -> Acted
+    requires { ⌜ 100 ≤ length (now line) ⌝ }
+    ensures { λ r. ⌜ Gives (now (line .entry)) (now (line .exit)) r code (o .«record») 0 (interruptNumber (o .answer)) [] ⌝ }
+{
+    let a = o.answer;
+    let k = o.record;
+    let len = show_interrupted(line, code, a);
+    Acted {
+        record: k,
+        stores: 0,
+        len,
+    }
+}
+
+pub fn happened(line: &mut [u8], code: u8, o: Host) -> Acted
+    requires { ⌜ 100 ≤ length (now line) ⌝ }
+    ensures { λ r. ⌜ Gives (now (line .entry)) (now (line .exit)) r code (o .«record») 0 (happenedNumber (o .answer)) [] ⌝ }
+{
+    let a = o.answer;
+    let k = o.record;
+    let len = show_happened(line, code, a);
+    Acted {
+        record: k,
+        stores: 0,
+        len,
+    }
+}
+
+pub fn collected(line: &mut [u8], code: u8, o: Collected, fifo: &[u8]) -> Acted
+    requires { ⌜ (100 + 4 * length (now fifo) ≤ length (now line)) × InBuffer (o .answer) (now fifo) ⌝ }
+    ensures { λ r. ⌜ Gives (now (line .entry)) (now (line .exit)) r code (o .«record») 0 (takenNumber (o .answer)) (takenValues (o .answer) (now (fifo .entry))) ⌝ }
+{
+    let a = o.answer;
+    let k = o.record;
+    let len = show_taken(line, code, a, fifo);
+    Acted {
+        record: k,
+        stores: 0,
+        len,
     }
 }
