@@ -1,0 +1,3 @@
+pub mod Written
+pub mod Counted
+pub mod Examples

@@ -1,0 +1,88 @@
+-- The record as the 96 numbers of the detail report, registers as they read. The order is that of the original's own detail report
+-- (oracle/README.md), so that the two can be compared line by line.
+-- Assumes nothing.
+use Prim.Native.Nat.{ℕ, zero, suc, _+_}
+use mathlib.Core.Bool.{Bool, cond}
+use mathlib.Core.List.{List, [], _∷_, _++_}
+use lib.ListN.{getD}
+use Rattle.board.specs.declared.Direction.the-variants.{Out, In}
+use Rattle.regs.specs.declared.Intrusb.{Intrusb}
+use Rattle.regs.specs.declared.Regs.{Regs}
+use Rattle.regs.specs.Registers.{sideAt, withIndex}
+use Rattle.regs.specs.Control.{csr0lNumber, txcsrlNumber, rxcsrlNumber, csr0lRead, txcsrlRead, rxcsrlRead}
+use Rattle.alloc_endpoint.specs.declared.EndpointData.{EndpointData}
+use Rattle.alloc_endpoint.specs.Endpoints.{typeNumber, blank}
+use Rattle.control_state.specs.declared.ControlState.{ControlState}
+use Rattle.control_state.specs.Numbers.{stateNumber}
+use Rattle.record.specs.declared.Flags.{Flags}
+use Rattle.record.specs.declared.Record.{Record}
+
+abbrev pub flag : Bool → ℕ
+flag b = cond b 1 0
+
+-- "Bits of the bus interrupt register: suspend 0, resume 1, reset 2" (docs/DECISIONS.md)
+unfoldable pub intrusbNumber : Intrusb → ℕ
+intrusbNumber u = cond (u .suspend) 1 0 + cond (u .resume) 2 0 + cond (u .reset) 4 0
+
+unfoldable pub csr0lAt : Regs → ℕ
+csr0lAt r = csr0lNumber (csr0lRead r)
+
+-- faddr, power, index, intrtxe, intrrxe, intrusbe, intrusb, intrtx, intrrx, csr0l
+unfoldable pub ofChip : Regs → List ℕ
+ofChip r =
+    r .faddr ∷ r .power ∷ r .index
+    ∷ r .enable .tx ∷ r .enable .rx ∷ r .enable .usb
+    ∷ intrusbNumber (r .pending .usb) ∷ r .pending .tx ∷ r .pending .rx
+    ∷ csr0lAt r
+    ∷ []
+
+-- what TXCSRL and RXCSRL read with an endpoint selected
+unfoldable pub txcsrlAt : Regs → ℕ → ℕ
+txcsrlAt r e = txcsrlNumber (txcsrlRead (withIndex r e))
+
+unfoldable pub rxcsrlAt : Regs → ℕ → ℕ
+rxcsrlAt r e = rxcsrlNumber (rxcsrlRead (withIndex r e))
+
+-- txcsrl, rxcsrl, txcsrh, rxcsrh, txmaxp, rxmaxp; document 01: "ISO is bit 6 of TXCSRH and RXCSRH"
+unfoldable pub registersAt : Regs → ℕ → List ℕ
+registersAt r e =
+    txcsrlAt r e ∷ rxcsrlAt r e
+    ∷ cond (sideAt r e In .iso) 64 0 ∷ cond (sideAt r e Out .iso) 64 0
+    ∷ sideAt r e In .maxp ∷ sideAt r e Out .maxp
+    ∷ []
+
+-- endpoint 0 has none of these: its bits stand in CSR0L
+unfoldable pub shownAt : Regs → ℕ → List ℕ
+shownAt r zero = 0 ∷ 0 ∷ 0 ∷ 0 ∷ 0 ∷ 0 ∷ []
+shownAt r (suc e) = registersAt r (suc e)
+
+-- the waiting transmit and receive lengths
+unfoldable pub lengthsAt : Regs → ℕ → List ℕ
+lengthsAt r e = sideAt r e In .len ∷ sideAt r e Out .len ∷ []
+
+-- type, recorded transmit and receive size, used transmit, used receive
+unfoldable pub ofData : EndpointData → List ℕ
+ofData d =
+    typeNumber (d .«ep_conf» .«ep_type»)
+    ∷ d .«ep_conf» .«tx_max_packet_size» ∷ d .«ep_conf» .«rx_max_packet_size»
+    ∷ flag (d .«used_tx») ∷ flag (d .«used_rx»)
+    ∷ []
+
+unfoldable pub ofEndpoint : Regs → EndpointData → ℕ → List ℕ
+ofEndpoint r d e = shownAt r e ++ lengthsAt r e ++ ofData d
+
+-- the endpoints below n, in number order
+unfoldable pub ofEndpoints : Regs → List EndpointData → ℕ → List ℕ
+ofEndpoints r ds zero = []
+ofEndpoints r ds (suc n) = ofEndpoints r ds n ++ ofEndpoint r (getD ds n blank) n
+
+-- control state, remaining length, the flags reset, suspend, resume and ep0, the transmit and receive flag words
+unfoldable pub ofFlags : ControlState → Flags → List ℕ
+ofFlags c f =
+    stateNumber (c .state) ∷ c .«tx_len»
+    ∷ flag (f .reset) ∷ flag (f .suspend) ∷ flag (f .resume) ∷ flag (f .ep0)
+    ∷ f .«ep_tx» ∷ f .«ep_rx»
+    ∷ []
+
+unfoldable pub recordNumbers : Record → List ℕ
+recordNumbers k = ofChip (k .regs) ++ ofEndpoints (k .regs) (k .endpoints) 6 ++ ofFlags (k .«control_state») (k .irq)
