@@ -1,0 +1,193 @@
+-- From a call's contract and the line of its answer to what the entry leaves: one law for each kind of call.
+-- Assumes nothing.
+use Prim.Native.Nat.{ℕ, zero, suc, _+_, _-_, _≤_}
+use native.Mathlib.Omega.{arith}
+use native.Mathlib.Nat.{add-sub-cancel-left}
+use mathlib.Core.Path.{_≡_, refl, sym, ap, subst, _∙_}
+use mathlib.Core.Bool.{true, false}
+use mathlib.Core.List.{List, [], _∷_}
+use lib.Dec.{leb}
+use lib.ListN.{length, take, drop, replicate, length-take, length-drop, length-replicate}
+use Rattle.board.specs.declared.Direction.the-variants.{Out}
+use Rattle.record.specs.declared.Record.{Record}
+use Rattle.record.specs.declared.Entry.{Entry as Admission}
+use Rattle.record.specs.declared.Entry.the-variants as admission
+use Rattle.record.specs.Record.{endpointsOf, recordSound, entryBy}
+use Rattle.record.proofs.Areas.{area-within}
+use Rattle.record.proofs.Passing.{record-is-sound, waiting-fits}
+use Rattle.record.proofs.Rows.{none-refused}
+use Rattle.peek.specs.Peek.{short}
+use Rattle.peek.proofs.Lent.{lent-enough}
+use Rattle.peek.proofs.Readings as readings
+use Rattle.usb_device_impl.specs.declared.AllocEp.{AllocEp}
+use Rattle.usb_device_impl.specs.declared.Called.{Called}
+use Rattle.usb_device_impl.specs.declared.IsStalled.{IsStalled}
+use Rattle.usb_device_impl.specs.Calls as impl
+use Rattle.usb_device_write.specs.declared.Wrote.{Wrote}
+use Rattle.usb_device_write.specs.declared.Wrote.the-variants as wrote
+use Rattle.usb_device_write.specs.declared.Written.{Written}
+use Rattle.usb_device_write.specs.Write.{WriteOutcome, wroteNumber, wroteValues, writeCall}
+use Rattle.usb_device_write.proofs.Answers as write-answers
+use Rattle.usb_device_read.specs.declared.Got.{Got}
+use Rattle.usb_device_read.specs.declared.Got.the-variants as got
+use Rattle.usb_device_read.specs.declared.Fetched.{Fetched}
+use Rattle.usb_device_read.specs.Read.{ReadOutcome, gotNumber, gotValues, ownTestsAt, testsBy, tests, waiting, readBy, readCall}
+use Rattle.usb_device_read.proofs.Answers as read-answers
+use Rattle.usb_device_poll.specs.declared.Polled.{Polled}
+use Rattle.usb_device_poll.specs.Poll.{PollOutcome, pollNumber, pollValues}
+use Rattle.usb_device_interrupt.specs.declared.OnInterrupt.{OnInterrupt}
+use Rattle.usb_device_interrupt.specs.Interrupt.{interruptNumber}
+use Rattle.host.specs.declared.Host.{Host}
+use Rattle.host.specs.declared.Collected.{Collected}
+use Rattle.host.specs.Host as host
+use Rattle.entries.specs.declared.Entry.{Entry}
+use Rattle.entries.specs.declared.Entry.the-variants.{Write, Read, Arrival}
+use Rattle.entries.specs.Entries.{codeOf}
+use Rattle.answers.specs.Shown.{Gives, wroteFits, gotFits}
+use Rattle.answers.specs.declared.Acted.{Acted}
+use Rattle.act.specs.Act.{Outcome, state, called, told, allocated, written, fetched, polled, interrupted, happened, arrived, collected, packet, actedOn, acted, Acts, Within}
+
+handed-on : (s : List ℕ) (start n : ℕ) → take (start + n - start) (drop start s) ≡ packet s start n
+handed-on s start n = ap (λ (m : ℕ). take m (drop start s)) (add-sub-cancel-left start n)
+
+module _ {b a : List ℕ} {r : Acted} {code : ℕ} where
+  -- the entry is e′, and its call left o
+  pub entry : (s : List ℕ) (k : Record) (f l : List ℕ) {f′ l′ : List ℕ} {e e′ : Entry} → e ≡ e′ → code ≡ codeOf e → Acts b a r f′ l′ code (actedOn s e′ k f l)
+      → Acts b a r f′ l′ (codeOf e) (acted s e (state k f l))
+  unfolding acted
+  entry s k f l {f′} {l′} {e} is c p =
+      subst (λ (n : ℕ). Acts b a r f′ l′ n (actedOn s e k f l)) c (subst (λ (x : Entry). Acts b a r f′ l′ code (actedOn s x k f l)) (sym is) p)
+
+  module _ (f : List ℕ) {l : List ℕ} where
+    pub by-called : {x : Called} {o : impl.Outcome} → record { call = x; list = l } ≡ o → Gives b a r code (x .«record») (x .stores) (impl.replyNumber (x .answer)) []
+        → Acts b a r f l code (called f o)
+    by-called e g =
+        subst (λ (o : impl.Outcome). Acts b a r f l code (called f o)) e
+        (record { kept = λ i. state (g .kept i) f l; counted = g .counted; shown = g .shown })
+
+    pub by-told : {x : IsStalled} {o : impl.ToldOutcome} → record { call = x; list = l } ≡ o
+        → Gives b a r code (x .«record») (x .stores) (impl.toldNumber (x .answer)) (impl.toldValues (x .answer)) → Acts b a r f l code (told f o)
+    by-told e g =
+        subst (λ (o : impl.ToldOutcome). Acts b a r f l code (told f o)) e
+        (record { kept = λ i. state (g .kept i) f l; counted = g .counted; shown = g .shown })
+
+    pub by-polled : {x : Polled} {o : PollOutcome} → record { result = x; list = l } ≡ o
+        → Gives b a r code (x .«record») (x .stores) (pollNumber (x .answer)) (pollValues (x .answer)) → Acts b a r f l code (polled f o)
+    by-polled e g =
+        subst (λ (o : PollOutcome). Acts b a r f l code (polled f o)) e
+        (record { kept = λ i. state (g .kept i) f l; counted = g .counted; shown = g .shown })
+
+    pub by-fetched : {x : Fetched} {buf : List ℕ} {o : ReadOutcome} → record { result = x; list = l; buf = buf } ≡ o
+        → Gives b a r code (x .«record») (x .stores) (gotNumber (x .answer)) (gotValues (x .answer) buf) → Acts b a r f l code (fetched f o)
+    by-fetched e g =
+        subst (λ (o : ReadOutcome). Acts b a r f l code (fetched f o)) e
+        (record { kept = λ i. state (g .kept i) f l; counted = g .counted; shown = g .shown })
+
+  module _ (f l : List ℕ) where
+    pub by-allocated : {x o : AllocEp} → x ≡ o
+        → Gives b a r code (x .«record») 0 (impl.allocationNumber (x .answer)) (impl.allocationValues (x .answer)) → Acts b a r f l code (allocated f l o)
+    by-allocated e g =
+        subst (λ (o : AllocEp). Acts b a r f l code (allocated f l o)) e
+        (record { kept = λ i. state (g .kept i) f l; counted = g .counted; shown = g .shown })
+
+    pub by-interrupted : {x o : OnInterrupt} → x ≡ o → Gives b a r code (x .«record») 0 (interruptNumber (x .answer)) [] → Acts b a r f l code (interrupted f l o)
+    by-interrupted e g =
+        subst (λ (o : OnInterrupt). Acts b a r f l code (interrupted f l o)) e
+        (record { kept = λ i. state (g .kept i) f l; counted = g .counted; shown = g .shown })
+
+    pub by-happened : {x o : Host} → x ≡ o → Gives b a r code (x .«record») 0 (host.happenedNumber (x .answer)) [] → Acts b a r f l code (happened f l o)
+    by-happened e g =
+        subst (λ (o : Host). Acts b a r f l code (happened f l o)) e
+        (record { kept = λ i. state (g .kept i) f l; counted = g .counted; shown = g .shown })
+
+    pub by-collected : {x o : Collected} → x ≡ o → Gives b a r code (x .«record») 0 (host.takenNumber (x .answer)) (host.takenValues (x .answer) f)
+        → Acts b a r f l code (collected f l o)
+    by-collected e g =
+        subst (λ (o : Collected). Acts b a r f l code (collected f l o)) e
+        (record { kept = λ i. state (g .kept i) f l; counted = g .counted; shown = g .shown })
+
+  -- a packet is handed on as a part of the trace
+  module _ (k : Record) (ep : ℕ) (s : List ℕ) (start n : ℕ) (f : List ℕ) {f′ : List ℕ} where
+    pub by-written : (l : List ℕ) {l′ : List ℕ} {x : Written} → record { result = x; fifo = f′; list = l′ } ≡ writeCall k ep (take (start + n - start) (drop start s)) f l
+        → Gives b a r code (x .«record») (x .stores) (wroteNumber (x .answer)) (wroteValues (x .answer))
+        → Acts b a r f′ l′ code (written (writeCall k ep (packet s start n) f l))
+    by-written l {l′} e g =
+        subst (λ (o : WriteOutcome). Acts b a r f′ l′ code (written o)) (e ∙ ap (λ (p : List ℕ). writeCall k ep p f l) (handed-on s start n))
+        (record { kept = λ i. state (g .kept i) f′ l′; counted = g .counted; shown = g .shown })
+
+    pub by-arrived : (l : List ℕ) {x : Host} → record { event = x; fifo = f′ } ≡ host.arrivalCall k ep (take (start + n - start) (drop start s)) f
+        → Gives b a r code (x .«record») 0 (host.happenedNumber (x .answer)) [] → Acts b a r f′ l code (arrived l (host.arrivalCall k ep (packet s start n) f))
+    by-arrived l e g =
+        subst (λ (o : host.Arrival). Acts b a r f′ l code (arrived l o)) (e ∙ ap (λ (p : List ℕ). host.arrivalCall k ep p f) (handed-on s start n))
+        (record { kept = λ i. state (g .kept i) f′ l; counted = g .counted; shown = g .shown })
+
+-- what `Within` says of the entries that it speaks of
+pub write-within : (s : List ℕ) {e : Entry} {ep start n : ℕ} → e ≡ Write ep start n → Within s e → start + n ≤ length s
+write-within s e h = rw e at h
+
+pub arrival-within : (s : List ℕ) {e : Entry} {ep start n : ℕ} → e ≡ Arrival ep start n → Within s e → start + n ≤ length s
+arrival-within s e h = rw e at h
+
+pub read-within : (s : List ℕ) {e : Entry} {ep n : ℕ} → e ≡ Read ep n → Within s e → n ≤ 512
+read-within s e h = rw e at h
+
+-- a written length is the packet's
+pub wrote-fits : (k : Record) (ep : ℕ) (s : List ℕ) (start n : ℕ) (f l : List ℕ) {x : Written} {f′ l′ : List ℕ}
+    → record { result = x; fifo = f′; list = l′ } ≡ writeCall k ep (take (start + n - start) (drop start s)) f l → length s ≤ 65536 → wroteFits (x .answer)
+wrote-fits k ep s start n f l {x} e h = go (x .answer) (λ i. e i .result .answer)
+  where
+    p : List ℕ
+    p = take (start + n - start) (drop start s)
+
+    go : (y : Wrote) → y ≡ writeCall k ep p f l .result .answer → wroteFits y
+    go (wrote.Done m) q =
+        omega (arith, h, write-answers.value k ep p f l m (sym q), length-take (start + n - start) (drop start s), length-drop start s)
+    go (wrote.Refused z) q = tt
+
+-- a read's count is the waiting packet's length, and a record that passes reply 16 holds no packet longer than its area
+module _ (k : Record) (ep : ℕ) (f l buf : List ℕ) where
+  waiting-in : short k (length f) (length l) ≡ false → recordSound k ≡ true → waiting k ep ≤ length f
+  unfolding waiting
+  waiting-in s p =
+      let fits = waiting-fits k (record-is-sound k p) ep Out in
+      let in-area = area-within k ep Out in
+      let lent = lent-enough k (length f) (length l) s in
+      rw (readings.waiting (k .regs) ep) (omega (arith, fits, in-area, lent .0))
+
+  count-in : (n : ℕ) → readCall k ep f l buf .result .answer ≡ got.Done n → n ≤ length f
+  unfolding readCall tests
+  count-in n e = go (entryBy (short k (length f) (length l)) (recordSound k) (leb (endpointsOf k) ep)) refl e
+    where
+      go : (t : Admission) → entryBy (short k (length f) (length l)) (recordSound k) (leb (endpointsOf k) ep) ≡ t
+          → readBy (testsBy t (ownTestsAt k ep (length buf))) k ep f l buf .result .answer ≡ got.Done n → n ≤ length f
+      go admission.Clear t q =
+          let h = none-refused (short k (length f) (length l)) (recordSound k) (leb (endpointsOf k) ep) t in
+          omega (arith, read-answers.value k ep f l buf n e, waiting-in (h .0) (h .1))
+      go (admission.Refused x) t q = let z : _≡_ {A = ℕ} 0 1 = cc in absurd (omega arith)
+
+  pub got-fits : {x : Fetched} {l′ buf′ : List ℕ} → record { result = x; list = l′; buf = buf′ } ≡ readCall k ep f l buf → length f ≤ 2000 → gotFits (x .answer)
+  got-fits {x} e h = go (x .answer) (λ i. e i .result .answer)
+    where
+      go : (y : Got) → y ≡ readCall k ep f l buf .result .answer → gotFits y
+      go (got.Done n) q = omega (arith, h, count-in n (sym q))
+      go (got.Refused z) q = tt
+
+-- the buffer of a read: the front of 512 zeros
+zeros-front : (n m : ℕ) → n ≤ m → take n (replicate {A = ℕ} m 0) ≡ replicate n 0
+zeros-front zero m h = refl
+zeros-front (suc n) zero h = absurd (omega arith)
+zeros-front (suc n) (suc m) h = ap (λ (l : List ℕ). 0 ∷ l) (zeros-front n m (omega arith))
+
+module _ (n : ℕ) (h : n ≤ 512) {z : List ℕ} (is : z ≡ replicate 512 0) where
+  zeros : take n z ≡ replicate n 0
+  zeros = ap (take n) is ∙ zeros-front n 512 h
+
+  pub buffer-length : n ≡ length (take n z)
+  buffer-length = sym (ap length zeros ∙ length-replicate n 0)
+
+  pub buffer-short : length (take n z) ≤ 512
+  buffer-short = omega (arith, h, buffer-length)
+
+  pub by-read : (k : Record) (ep : ℕ) (f l : List ℕ) {b a l′ : List ℕ} {r : Acted} {code : ℕ} → Acts b a r f l′ code (fetched f (readCall k ep f l (take n z)))
+      → Acts b a r f l′ code (fetched f (readCall k ep f l (replicate n 0)))
+  by-read k ep f l {b} {a} {l′} {r} {code} p = subst (λ (u : List ℕ). Acts b a r f l′ code (fetched f (readCall k ep f l u))) zeros p

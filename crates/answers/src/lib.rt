@@ -1,0 +1,338 @@
+// The line of an entry that was carried out: its code, and the reply and values of its answer (document 01, 'Event trace').
+// A refused entry shows code and reply only. Each function gives the length of its line, which stands at the front of the lent buffer.
+use alloc_endpoint::EndpointAllocError;
+use host::Collected;
+use host::Happened;
+use host::Host;
+use host::Taken;
+use record::Record;
+use record::Refusal;
+use usb_device_impl::AllocEp;
+use usb_device_impl::Allocation;
+use usb_device_impl::Called;
+use usb_device_impl::IsStalled;
+use usb_device_impl::Reply;
+use usb_device_impl::Told;
+use usb_device_interrupt::Interrupted;
+use usb_device_interrupt::OnInterrupt;
+use usb_device_poll::Masks;
+use usb_device_poll::PollAnswer;
+use usb_device_poll::PollResult;
+use usb_device_poll::Polled;
+use usb_device_read::Fetched;
+use usb_device_read::Got;
+use usb_device_write::Written;
+use usb_device_write::Wrote;
+ghost use mathlib.Core.Path.{_≡_};
+ghost use mathlib.Core.Bool.{cond};
+ghost use mathlib.Core.List.{[], _∷_};
+ghost use Prim.Native.Nat.{_+_, _*_, _≤_, _<_, _^_, min};
+ghost use lib.ListN.{length, take, drop};
+ghost use Rattle.report.specs.Text.{line as textLine};
+ghost use Rattle.record.specs.Record.{refusalNumber};
+ghost use Rattle.alloc_endpoint.specs.Numbers.{errorNumber};
+ghost use Rattle.usb_device_impl.specs.Calls.{replyNumber, allocationNumber, allocationValues, toldNumber, toldValues};
+ghost use Rattle.usb_device_write.specs.Write.{wroteNumber, wroteValues};
+ghost use Rattle.usb_device_read.specs.Read.{gotNumber, gotValues};
+ghost use Rattle.usb_device_poll.specs.Poll.{pollNumber, pollValues, resultValues};
+ghost use Rattle.usb_device_interrupt.specs.Interrupt.{interruptNumber};
+ghost use Rattle.host.specs.Host.{happenedNumber, takenNumber, takenValues, InBuffer};
+ghost use Rattle.answers.specs.Shown.{Shows, Gives, wroteFits, gotFits};
+
+fn wide(x: u8) -> u32
+    ensures { λ r. ⌜ r ≡ x ⌝ }
+{
+    x as u32
+}
+
+fn wide_mask(x: u16) -> u32
+    ensures { λ r. ⌜ r ≡ x ⌝ }
+{
+    x as u32
+}
+
+fn as_number(b: bool) -> u32
+    ensures { λ r. ⌜ r ≡ cond b 1 0 ⌝ }
+{
+    if b {
+        return 1;
+    }
+    0
+}
+
+fn least(a: usize, b: usize) -> usize
+    ensures { λ r. ⌜ (r ≡ min a b) × (r ≤ b) ⌝ }
+{
+    if a < b {
+        return a;
+    }
+    b
+}
+
+fn show_refusal(line: &mut [u8], code: u8, x: Refusal) -> usize
+    requires { ⌜ 100 ≤ length (now line) ⌝ }
+    ensures { λ r. ⌜ Shows (now (line .entry)) (now (line .exit)) r code (refusalNumber x) [] ⌝ }
+{
+    report::reply_line(line, code, record::refusal_number(x))
+}
+
+fn show_reply(line: &mut [u8], code: u8, a: Reply) -> usize
+    requires { ⌜ 100 ≤ length (now line) ⌝ }
+    ensures { λ r. ⌜ Shows (now (line .entry)) (now (line .exit)) r code (replyNumber a) [] ⌝ }
+{
+    report::reply_line(line, code, usb_device_impl::reply_number(a))
+}
+
+fn show_happened(line: &mut [u8], code: u8, a: Happened) -> usize
+    requires { ⌜ 100 ≤ length (now line) ⌝ }
+    ensures { λ r. ⌜ Shows (now (line .entry)) (now (line .exit)) r code (happenedNumber a) [] ⌝ }
+{
+    report::reply_line(line, code, host::happened_number(a))
+}
+
+fn show_interrupted(line: &mut [u8], code: u8, a: Interrupted) -> usize
+    requires { ⌜ 100 ≤ length (now line) ⌝ }
+    ensures { λ r. ⌜ Shows (now (line .entry)) (now (line .exit)) r code (interruptNumber a) [] ⌝ }
+{
+    match a {
+        Interrupted::Done => report::reply_line(line, code, 0),
+        Interrupted::Refused(x) => show_refusal(line, code, x),
+    }
+}
+
+// "the endpoint"
+fn show_allocation(line: &mut [u8], code: u8, a: Allocation) -> usize
+    requires { ⌜ 100 ≤ length (now line) ⌝ }
+    ensures { λ r. ⌜ Shows (now (line .entry)) (now (line .exit)) r code (allocationNumber a) (allocationValues a) ⌝ }
+{
+    match a {
+        Allocation::Done(n) => report::value_line(line, code, 0, wide(n)),
+        Allocation::NotGiven(x) => report::reply_line(line, code, alloc_endpoint::error_number(x)),
+        Allocation::Refused(x) => show_refusal(line, code, x),
+    }
+}
+
+// "0 or 1"
+fn show_told(line: &mut [u8], code: u8, a: Told) -> usize
+    requires { ⌜ 100 ≤ length (now line) ⌝ }
+    ensures { λ r. ⌜ Shows (now (line .entry)) (now (line .exit)) r code (toldNumber a) (toldValues a) ⌝ }
+{
+    match a {
+        Told::Done(b) => report::value_line(line, code, 0, as_number(b)),
+        Told::Refused(x) => show_refusal(line, code, x),
+    }
+}
+
+// "written length"
+fn show_wrote(line: &mut [u8], code: u8, a: Wrote) -> usize
+    requires { ⌜ (100 ≤ length (now line)) × wroteFits a ⌝ }
+    ensures { λ r. ⌜ Shows (now (line .entry)) (now (line .exit)) r code (wroteNumber a) (wroteValues a) ⌝ }
+{
+    match a {
+        Wrote::Done(n) => report::value_line(line, code, 0, n as u32),
+        Wrote::Refused(x) => show_refusal(line, code, x),
+    }
+}
+
+fn show_stored(line: &mut [u8], code: u8, n: usize, buf: &[u8]) -> usize
+    requires { ⌜ (100 + 4 * length (now buf) ≤ length (now line)) × (n < 2 ^ 32) ⌝ }
+    ensures { λ r. ⌜ Shows (now (line .entry)) (now (line .exit)) r code 0 (n ∷ take (min n (length (now (buf .entry)))) (now (buf .entry))) ⌝ }
+{
+    let m = least(n, buf.len());
+    report::counted_line(line, code, 0, n as u32, &buf[..m])
+}
+
+// "for reads the count then stored bytes", which stand at the front of the read's buffer
+fn show_got(line: &mut [u8], code: u8, a: Got, buf: &[u8]) -> usize
+    requires { ⌜ (100 + 4 * length (now buf) ≤ length (now line)) × gotFits a ⌝ }
+    ensures { λ r. ⌜ Shows (now (line .entry)) (now (line .exit)) r code (gotNumber a) (gotValues a (now (buf .entry))) ⌝ }
+{
+    match a {
+        Got::Done(n) => show_stored(line, code, n, buf),
+        Got::Refused(x) => show_refusal(line, code, x),
+    }
+}
+
+// "0 None, 1 Data with out, in, setup masks, 2 Reset, 3 Resume, 4 Suspend"
+fn show_result(line: &mut [u8], code: u8, a: PollResult) -> usize
+    requires { ⌜ 100 ≤ length (now line) ⌝ }
+    ensures { λ r. ⌜ Shows (now (line .entry)) (now (line .exit)) r code 0 (resultValues a) ⌝ }
+{
+    match a {
+        PollResult::None => report::value_line(line, code, 0, 0),
+        PollResult::Data(m) => report::masks_line(
+            line,
+            code,
+            0,
+            1,
+            wide_mask(m.ep_out),
+            wide_mask(m.ep_in_complete),
+            wide_mask(m.ep_setup),
+        ),
+        PollResult::Reset => report::value_line(line, code, 0, 2),
+        PollResult::Resume => report::value_line(line, code, 0, 3),
+        PollResult::Suspend => report::value_line(line, code, 0, 4),
+    }
+}
+
+fn show_poll(line: &mut [u8], code: u8, a: PollAnswer) -> usize
+    requires { ⌜ 100 ≤ length (now line) ⌝ }
+    ensures { λ r. ⌜ Shows (now (line .entry)) (now (line .exit)) r code (pollNumber a) (pollValues a) ⌝ }
+{
+    match a {
+        PollAnswer::Done(p) => show_result(line, code, p),
+        PollAnswer::Refused(x) => show_refusal(line, code, x),
+    }
+}
+
+fn show_part(line: &mut [u8], code: u8, start: usize, len: usize, fifo: &[u8]) -> usize
+    requires { ⌜ (100 + 4 * length (now fifo) ≤ length (now line)) × (start + len ≤ length (now fifo)) ⌝ }
+    ensures { λ r. ⌜ Shows (now (line .entry)) (now (line .exit)) r code 0 (take len (drop start (now (fifo .entry)))) ⌝ }
+{
+    let end = start + len;
+    report::bytes_line(line, code, 0, &fifo[start..end])
+}
+
+// "for collect the bytes", at the place that the collection gave
+fn show_taken(line: &mut [u8], code: u8, a: Taken, fifo: &[u8]) -> usize
+    requires { ⌜ (100 + 4 * length (now fifo) ≤ length (now line)) × InBuffer a (now fifo) ⌝ }
+    ensures { λ r. ⌜ Shows (now (line .entry)) (now (line .exit)) r code (takenNumber a) (takenValues a (now (fifo .entry))) ⌝ }
+{
+    match a {
+        Taken::Done(start, len) => show_part(line, code, start, len, fifo),
+        Taken::Refused(x) => show_refusal(line, code, x),
+    }
+}
+
+// The record, how many stores stand in the list, and how long the line is.
+pub struct Acted {
+    pub record: Record,
+    pub stores: usize,
+    pub len: usize,
+}
+
+pub fn called(line: &mut [u8], code: u8, o: Called) -> Acted
+    requires { ⌜ 100 ≤ length (now line) ⌝ }
+    ensures { λ r. ⌜ Gives (now (line .entry)) (now (line .exit)) r code (o .«record») (o .stores) (replyNumber (o .answer)) [] ⌝ }
+{
+    let a = o.answer;
+    let k = o.record;
+    let len = show_reply(line, code, a);
+    Acted {
+        record: k,
+        stores: o.stores,
+        len,
+    }
+}
+
+pub fn allocated(line: &mut [u8], code: u8, o: AllocEp) -> Acted
+    requires { ⌜ 100 ≤ length (now line) ⌝ }
+    ensures { λ r. ⌜ Gives (now (line .entry)) (now (line .exit)) r code (o .«record») 0 (allocationNumber (o .answer)) (allocationValues (o .answer)) ⌝ }
+{
+    let a = o.answer;
+    let k = o.record;
+    let len = show_allocation(line, code, a);
+    Acted {
+        record: k,
+        stores: 0,
+        len,
+    }
+}
+
+pub fn told(line: &mut [u8], code: u8, o: IsStalled) -> Acted
+    requires { ⌜ 100 ≤ length (now line) ⌝ }
+    ensures { λ r. ⌜ Gives (now (line .entry)) (now (line .exit)) r code (o .«record») (o .stores) (toldNumber (o .answer)) (toldValues (o .answer)) ⌝ }
+{
+    let a = o.answer;
+    let k = o.record;
+    let len = show_told(line, code, a);
+    Acted {
+        record: k,
+        stores: o.stores,
+        len,
+    }
+}
+
+pub fn wrote(line: &mut [u8], code: u8, o: Written) -> Acted
+    requires { ⌜ (100 ≤ length (now line)) × wroteFits (o .answer) ⌝ }
+    ensures { λ r. ⌜ Gives (now (line .entry)) (now (line .exit)) r code (o .«record») (o .stores) (wroteNumber (o .answer)) (wroteValues (o .answer)) ⌝ }
+{
+    let a = o.answer;
+    let k = o.record;
+    let len = show_wrote(line, code, a);
+    Acted {
+        record: k,
+        stores: o.stores,
+        len,
+    }
+}
+
+pub fn got(line: &mut [u8], code: u8, o: Fetched, buf: &[u8]) -> Acted
+    requires { ⌜ (100 + 4 * length (now buf) ≤ length (now line)) × gotFits (o .answer) ⌝ }
+    ensures { λ r. ⌜ Gives (now (line .entry)) (now (line .exit)) r code (o .«record») (o .stores) (gotNumber (o .answer)) (gotValues (o .answer) (now (buf .entry))) ⌝ }
+{
+    let a = o.answer;
+    let k = o.record;
+    let len = show_got(line, code, a, buf);
+    Acted {
+        record: k,
+        stores: o.stores,
+        len,
+    }
+}
+
+pub fn polled(line: &mut [u8], code: u8, o: Polled) -> Acted
+    requires { ⌜ 100 ≤ length (now line) ⌝ }
+    ensures { λ r. ⌜ Gives (now (line .entry)) (now (line .exit)) r code (o .«record») (o .stores) (pollNumber (o .answer)) (pollValues (o .answer)) ⌝ }
+{
+    let a = o.answer;
+    let k = o.record;
+    let len = show_poll(line, code, a);
+    Acted {
+        record: k,
+        stores: o.stores,
+        len,
+    }
+}
+
+pub fn interrupted(line: &mut [u8], code: u8, o: OnInterrupt) -> Acted
+    requires { ⌜ 100 ≤ length (now line) ⌝ }
+    ensures { λ r. ⌜ Gives (now (line .entry)) (now (line .exit)) r code (o .«record») 0 (interruptNumber (o .answer)) [] ⌝ }
+{
+    let a = o.answer;
+    let k = o.record;
+    let len = show_interrupted(line, code, a);
+    Acted {
+        record: k,
+        stores: 0,
+        len,
+    }
+}
+
+pub fn happened(line: &mut [u8], code: u8, o: Host) -> Acted
+    requires { ⌜ 100 ≤ length (now line) ⌝ }
+    ensures { λ r. ⌜ Gives (now (line .entry)) (now (line .exit)) r code (o .«record») 0 (happenedNumber (o .answer)) [] ⌝ }
+{
+    let a = o.answer;
+    let k = o.record;
+    let len = show_happened(line, code, a);
+    Acted {
+        record: k,
+        stores: 0,
+        len,
+    }
+}
+
+pub fn collected(line: &mut [u8], code: u8, o: Collected, fifo: &[u8]) -> Acted
+    requires { ⌜ (100 + 4 * length (now fifo) ≤ length (now line)) × InBuffer (o .answer) (now fifo) ⌝ }
+    ensures { λ r. ⌜ Gives (now (line .entry)) (now (line .exit)) r code (o .«record») 0 (takenNumber (o .answer)) (takenValues (o .answer) (now (fifo .entry))) ⌝ }
+{
+    let a = o.answer;
+    let k = o.record;
+    let len = show_taken(line, code, a, fifo);
+    Acted {
+        record: k,
+        stores: 0,
+        len,
+    }
+}
