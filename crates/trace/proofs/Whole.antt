@@ -3,7 +3,7 @@
 use Prim.Native.Nat.{ℕ, zero, suc, _+_, _-_, _≤_, _<_}
 use native.Mathlib.Omega.{arith}
 use mathlib.Core.Path.{_≡_, refl, sym, ap, _∙_}
-use mathlib.Core.List.{List, _++_}
+use mathlib.Core.List.{List, [], _++_, append-assoc}
 use borrow.Author.Tests.{le-leb, lt-leb}
 use lib.ListN.{length, take}
 use Rattle.record.specs.declared.Record.{Record}
@@ -19,7 +19,7 @@ use Rattle.trace.specs.declared.Came.{Came}
 use Rattle.trace.specs.declared.Came.the-variants as came
 use Rattle.trace.specs.declared.Stepped.{Stepped}
 use Rattle.trace.specs.Report.{lineOf, reportBy, reportFrom, restOf, begun, reportOf, StepOutcome, stepped, stepBy, stepOf}
-use Rattle.trace.specs.Runs.{Runs, entry, end, bad}
+use Rattle.trace.specs.Runs.{Took, Reached, begins, goes, Completes}
 
 -- how many entries are allowed does not matter where the bytes that are left are fewer
 enough : (m m′ : ℕ) (s : List ℕ) (at n : ℕ) (x : State) → at ≤ length s → length s < m + at → length s < m′ + at → reportFrom m s at n x ≡ reportFrom m′ s at n x
@@ -105,18 +105,33 @@ module _ (s : List ℕ) (at n : ℕ) (x : State) (r : Stepped) (f l before after
       go End q w = absurd (end-not-bad (sym (came-is End w c)))
       go Bad q w = stops s at n x q
 
-pub joined : {s : List ℕ} {at n : ℕ} {x : State} {text : List ℕ} → Runs s at n x text → text ≡ restOf s at n x
-joined {s} (entry at n x r f l before after len past rest w c h next) =
-    ap (λ (t : List ℕ). take len after ++ t) (joined next) ∙ sym (step-line s at n x r f l before after w len past c h)
-joined {s} (end at n x r f l before after w c) = sym (step-end s at n x r f l before after w c)
-joined {s} (bad at n x r f l before after w c) = sym (step-bad s at n x r f l before after w c)
+-- the lines that are written, and the report from here on
+pub reached : {s : List ℕ} {x₀ : State} {text : List ℕ} {at n : ℕ} {x : State} → Reached s x₀ text at n x → restOf s 0 0 x₀ ≡ text ++ restOf s at n x
+reached begins = refl
+reached {s} (goes text at n x r f l after len past p t c) =
+    reached p ∙ ap (λ (u : List ℕ). text ++ u) (step-line s at n x r f l (t .before) after (t .outcome) len past c (t .fits len past c))
+    ∙ sym (append-assoc text (take len after) (restOf s past (suc n) (state (r .«record») f l)))
 
--- every input of at most 65,536 bytes
-pub whole : (k : Record) (s : List ℕ) {text : List ℕ} → length s ≤ 65536 → Runs s 0 0 (begun k) text → header ++ text ≡ reportOf k s
-unfolding reportOf
-whole k s h runs = rw (le-leb _ _ h) (ap (λ (t : List ℕ). header ++ t) (joined runs))
+-- Every input of at most 65,536 bytes: the header, the lines that were written and the last line are the report.
+module _ (k : Record) (s : List ℕ) (short : length s ≤ 65536) {text : List ℕ} {at n : ℕ} {x : State} (p : Reached s (begun k) text at n x) where
+  so-far : header ++ (text ++ restOf s at n x) ≡ reportOf k s
+  unfolding reportOf
+  so-far = rw (le-leb _ _ short) (ap (λ (t : List ℕ). header ++ t) (sym (reached p)))
+
+  module _ {r : Stepped} {f l after : List ℕ} (t : Took s at x r f l after) where
+    pub ended : r .came ≡ came.End → Completes k s (endLine n)
+    ended c = record {
+      text = text;
+      report = ap (λ (u : List ℕ). header ++ (text ++ u)) (sym (step-end s at n x r f l (t .before) after (t .outcome) c)) ∙ so-far;
+    }
+
+    pub stopped : r .came ≡ came.Bad → Completes k s (badLine at)
+    stopped c = record {
+      text = text;
+      report = ap (λ (u : List ℕ). header ++ (text ++ u)) (sym (step-bad s at n x r f l (t .before) after (t .outcome) c)) ∙ so-far;
+    }
 
 -- and every longer one
-pub too-long : (k : Record) (s : List ℕ) → 65536 < length s → header ++ badLine 65536 ≡ reportOf k s
+pub too-long : (k : Record) (s : List ℕ) → 65536 < length s → Completes k s (badLine 65536)
 unfolding reportOf
-too-long k s h = rw (lt-leb _ _ h)
+too-long k s h = record { text = []; report = rw (lt-leb _ _ h) refl }

@@ -1,20 +1,30 @@
--- What a program writes that steps through a trace: header, a line for each step, and the last line.
+-- What a program has written that steps through a trace: the lines of its steps, one after another.
 -- Assumes nothing.
 use Prim.Native.Nat.{ℕ, suc, _≤_}
 use mathlib.Core.Path.{_≡_}
-use mathlib.Core.List.{List, _++_}
+use mathlib.Core.List.{List, [], _++_}
 use lib.ListN.{length, take}
-use Rattle.report.specs.Text.{endLine, badLine}
+use Rattle.record.specs.declared.Record.{Record}
+use Rattle.report.specs.Text.{header}
 use Rattle.act.specs.Act.{State, state}
-use Rattle.trace.specs.declared.Came.the-variants.{Line, End, Bad}
+use Rattle.trace.specs.declared.Came.the-variants.{Line}
 use Rattle.trace.specs.declared.Stepped.{Stepped}
-use Rattle.trace.specs.Report.{stepped, stepOf}
+use Rattle.trace.specs.Report.{stepped, stepOf, begun, reportOf}
 
--- From a place of the trace s on, with n entries behind and the state x: each step left r, f, l and the line buffer `after`, as the
--- contract of `step` says, and the program wrote the first bytes of that buffer. The line buffer may hold anything before a step.
-pub data Runs (s : List ℕ) : ℕ → ℕ → State → List ℕ → Type 0 where
-  entry : (at n : ℕ) (x : State) (r : Stepped) (f l before after : List ℕ) (len past : ℕ) (rest : List ℕ)
-      → stepped r f l after ≡ stepOf s at x before → r .came ≡ Line len past → len ≤ length before → Runs s past (suc n) (state (r .«record») f l) rest
-      → Runs s at n x (take len after ++ rest)
-  end : (at n : ℕ) (x : State) (r : Stepped) (f l before after : List ℕ) → stepped r f l after ≡ stepOf s at x before → r .came ≡ End → Runs s at n x (endLine n)
-  bad : (at n : ℕ) (x : State) (r : Stepped) (f l before after : List ℕ) → stepped r f l after ≡ stepOf s at x before → r .came ≡ Bad → Runs s at n x (badLine at)
+-- A step at a place of the trace s, from the state x: it left r, the FIFO buffer f, the store list l and the line buffer `after`, as the
+-- contract of `step` says. The line buffer may hold anything before.
+pub record Took (s : List ℕ) (at : ℕ) (x : State) (r : Stepped) (f l after : List ℕ) : Type 0 where
+  pub before : List ℕ
+  pub outcome : stepped r f l after ≡ stepOf s at x before
+  pub fits : (len past : ℕ) → r .came ≡ Line len past → len ≤ length before
+
+-- A program that began with the state x₀ has written `text`, stands at a place with n entries behind it, and has the state x.
+pub data Reached (s : List ℕ) (x₀ : State) : List ℕ → ℕ → ℕ → State → Type 0 where
+  begins : Reached s x₀ [] 0 0 x₀
+  goes : (text : List ℕ) (at n : ℕ) (x : State) (r : Stepped) (f l after : List ℕ) (len past : ℕ) → Reached s x₀ text at n x → Took s at x r f l after
+      → r .came ≡ Line len past → Reached s x₀ (text ++ take len after) past (suc n) (state (r .«record») f l)
+
+-- `last`, after the lines that were written, makes up the report of the trace s
+pub record Completes (k : Record) (s last : List ℕ) : Type 0 where
+  pub text : List ℕ
+  pub report : header ++ (text ++ last) ≡ reportOf k s

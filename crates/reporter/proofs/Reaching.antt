@@ -1,0 +1,62 @@
+-- What the loop over the entries has reached, from step to step.
+-- Assumes nothing.
+use Prim.Native.Nat.{ℕ, _+_, _≤_, _<_}
+use native.Mathlib.Numerals.{add-one}
+use mathlib.Core.Path.{_≡_, sym, ap, subst, _∙_}
+use mathlib.Core.List.{List, [], _++_}
+use lib.ListN.{length, take, replicate}
+use Rattle.board.specs.declared.Board.{Board}
+use Rattle.board.specs.declared.Board.the-variants.{Display}
+use Rattle.board.specs.Table.{total}
+use Rattle.board.specs.Boards.{rows, rows-display}
+use Rattle.board.proofs.Areas.{display-total}
+use Rattle.regs.proofs.Sides.{fresh-rest}
+use Rattle.record.specs.declared.Record.{Record}
+use Rattle.record.specs.Record.{freshRecord, needOf}
+use Rattle.report.specs.Text.{endLine, badLine}
+use Rattle.act.specs.Act.{State, state}
+use Rattle.trace.specs.declared.Came.{Came}
+use Rattle.trace.specs.declared.Came.the-variants.{Line, End, Bad}
+use Rattle.trace.specs.declared.Stepped.{Stepped}
+use Rattle.trace.specs.Report.{stepped, stepOf, begun, Moves}
+use Rattle.trace.specs.Runs.{Took, Reached, begins, goes, Completes}
+use Rattle.trace.proofs.Whole as whole
+
+-- some lines are written, and the loop stands here
+pub record Stands (s : List ℕ) (k : Record) (f l : List ℕ) (at n : ℕ) : Type 0 where
+  pub text : List ℕ
+  pub run : Reached s (begun (freshRecord Display)) text at n (state k f l)
+
+-- the display's FIFO memory
+need : needOf (freshRecord Display) ≡ 1664
+unfolding needOf freshRecord
+need = ap (λ (b : Board). total (rows b)) (fresh-rest Display .0) ∙ ap total rows-display ∙ display-total
+
+pub stands-first : (s : List ℕ) {k : Record} {f l : List ℕ} → k ≡ freshRecord Display → f ≡ replicate 1664 0 → l ≡ replicate 384 0 → Stands s k f l 0 0
+stands-first s {k} {f} {l} a b c = record {
+  text = [];
+  run = subst (λ (x : State). Reached s (begun (freshRecord Display)) [] 0 0 x)
+      (λ i. state (sym a i) ((ap (λ (n : ℕ). replicate n 0) need ∙ sym b) i) (sym c i)) begins;
+}
+
+module _ (s : List ℕ) (k : Record) (f l : List ℕ) (at n : ℕ) (here : Stands s k f l at n) (before : List ℕ) {r : Stepped} {f′ l′ after : List ℕ}
+    (step : stepped r f′ l′ after ≡ stepOf s at (state k f l) before) (moves : Moves s at before (r .came)) where
+  took : Took s at (state k f l) r f′ l′ after
+  took = record { before = before; outcome = step; fits = λ len past c. subst (Moves s at before) c moves .0 }
+
+  pub stands-next : (len past : ℕ) → r .came ≡ Line len past → Stands s (r .«record») f′ l′ past (n + 1)
+  stands-next len past c = record {
+    text = here .text ++ take len after;
+    run = subst (λ (m : ℕ). Reached s (begun (freshRecord Display)) (here .text ++ take len after) past m (state (r .«record») f′ l′)) (sym (add-one n))
+        (goes (here .text) at n (state k f l) r f′ l′ after len past (here .run) took c);
+  }
+
+  pub ends-here : length s ≤ 65536 → r .came ≡ End → Completes (freshRecord Display) s (endLine n)
+  ends-here h c = whole.ended (freshRecord Display) s h (here .run) took c
+
+  pub stops-here : length s ≤ 65536 → r .came ≡ Bad → Completes (freshRecord Display) s (badLine at)
+  stops-here h c = whole.stopped (freshRecord Display) s h (here .run) took c
+
+-- a line was found
+pub moved : (s : List ℕ) (at : ℕ) (before : List ℕ) {c : Came} {len past : ℕ} → Moves s at before c → c ≡ Line len past → (len ≤ length before) × (at < past) × (past ≤ length s)
+moved s at before m e = subst (Moves s at before) e m
