@@ -30,13 +30,13 @@ fn line_buffer() -> [u8; 8192]
     [0; 8192]
 }
 
-fn put(line: &[u8], len: usize)
+pub fn put(line: &[u8], len: usize)
     requires { ⌜ len ≤ length (now line) ⌝ }
 {
     io::write_all(1, &line[..len]);
 }
 
-fn put_header(line: &mut [u8])
+pub fn put_header(line: &mut [u8])
     requires { ⌜ 8192 ≤ length (now line) ⌝ }
 {
     let len = report::header_line(line);
@@ -67,7 +67,7 @@ fn least(a: usize, b: usize) -> usize
 }
 
 // The two lines under an entry's line, for comparing with the original: its stores and the record. The list holds 128 stores.
-fn put_details(detail: bool, list: &[u16], stores: usize, k: Record, line: &mut [u8])
+pub fn put_details(detail: bool, list: &[u16], stores: usize, k: Record, line: &mut [u8])
     requires { ⌜ (384 ≤ length (now list)) × (8192 ≤ length (now line)) ⌝ }
 {
     if !detail {
