@@ -1,3 +1,4 @@
 pub mod Found
+pub mod Once
 pub mod Steps
 pub mod Whole
