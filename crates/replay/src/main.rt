@@ -1,5 +1,5 @@
-// Writes the report of each stored trace that its arguments name, one after the other. The traces and their reports were worked out by
-// hand from document 01: the file `cases` has them, to be read.
+// Writes the report of each stored trace that its arguments name, one after the other. The file `cases` has the traces and their reports,
+// to be read, and says where they come from.
 fn replay(i: usize) {
     let mut path = io::buffer();
     let n = os::arg(i, &mut path);
