@@ -1,7 +1,7 @@
 // Writes the reports of the stored traces that its arguments name, one after the other. `NAME` is a file with one trace; `+NAME` is one
 // with many, each behind its length in four bytes, low byte first; `=NAME` is such a file, and its reports are the detailed ones.
-// The single traces and their reports were worked out by hand from document 01: the file `cases` has them, to be read. The others are
-// generated, and their reports are the original's own.
+// The file `cases` has the single traces and their reports, to be read, and says where they come from. The others are generated, and
+// their reports are the original's own.
 ghost use Prim.Native.Nat.{_+_, _≤_, _<_};
 ghost use lib.ListN.{length};
 

@@ -1,4 +1,5 @@
 pub mod Found
+pub mod Histories
 pub mod Once
 pub mod Steps
 pub mod Whole

@@ -55,10 +55,10 @@ module _ (s : List ℕ) (at n : ℕ) (x : State) where
   unfolding restOf reportFrom
   stops is = ap (reportBy (λ next y. reportFrom (length s - at) s next (suc n) y) s at n x) is
 
-line-not-end : {len past : ℕ} → came.Line len past ≡ came.End → ⊥
+pub line-not-end : {len past : ℕ} → came.Line len past ≡ came.End → ⊥
 line-not-end e = let z : _≡_ {A = ℕ} 0 1 = cc in omega arith
 
-line-not-bad : {len past : ℕ} → came.Line len past ≡ came.Bad → ⊥
+pub line-not-bad : {len past : ℕ} → came.Line len past ≡ came.Bad → ⊥
 line-not-bad e = let z : _≡_ {A = ℕ} 0 1 = cc in omega arith
 
 end-not-bad : came.End ≡ came.Bad → ⊥

@@ -1,2 +1,3 @@
+pub mod Operations
 pub mod Report
 pub mod Runs

@@ -9,7 +9,7 @@ use Rattle.report.specs.Text.{header}
 use Rattle.act.specs.Act.{State, state}
 use Rattle.trace.specs.declared.Came.the-variants.{Line}
 use Rattle.trace.specs.declared.Stepped.{Stepped}
-use Rattle.trace.specs.Report.{stepped, stepOf, begun, reportOf}
+use Rattle.trace.specs.Report.{stepped, stepOf, reportOf}
 
 -- A step at a place of the trace s, from the state x: it left r, the FIFO buffer f, the store list l and the line buffer `after`, as the
 -- contract of `step` says. The line buffer may hold anything before.
