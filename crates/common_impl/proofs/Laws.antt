@@ -6,6 +6,11 @@ use mathlib.Core.Bool.{Bool, true, false, _||_, cond}
 use borrow.Author.Tests.{eq-eqb, ne-eqb}
 use Rattle.board.specs.declared.Direction.{Direction}
 use Rattle.board.specs.declared.Direction.the-variants.{Out, In}
+use lib.ListN.{getD}
+use Rattle.regs.specs.declared.Regs.{Regs}
+use Rattle.regs.specs.Registers.{noEp}
+use Rattle.regs.proofs.Sides.{in-place}
+use Rattle.regs.proofs.Readings.{tx-missed, rx-missed}
 use Rattle.regs.specs.Control.{csr0lRead, txcsrlRead, rxcsrlRead}
 use Rattle.regs.specs.declared.control.Csr0l.{Csr0l}
 use Rattle.regs.specs.declared.control.Txcsrl.{Txcsrl}
@@ -85,6 +90,11 @@ module _ (g : Log) where
   pub no-over-run : {w : Rxcsrl} → w ≡ rxcsrlRead (g .regs) → w .«over_run» ≡ false → g ≡ overRunCleared g
   unfolding overRunCleared
   no-over-run r t = when-false _ _ (ap (λ (w : Rxcsrl). w .«over_run») (sym r) ∙ t) refl
+
+-- what stands in the selected endpoint's place is what its registers read
+pub missed-in-place : (r : Regs) (e : ℕ) → r .index ≡ e → (getD (r .eps) e noEp .tx .missed || getD (r .eps) e noEp .rx .missed) ≡ missed r
+unfolding missed
+missed-in-place r e p = rw (tx-missed r, rx-missed r, in-place r (r .index) In, in-place r (r .index) Out, p)
 
 neither : (x y : Bool) → (x || y) ≡ false → (x ≡ false) × (y ≡ false)
 neither true y p = (p, cc)

@@ -3,6 +3,7 @@
 use alloc_endpoint::EndpointConfig;
 use alloc_endpoint::EndpointType;
 use board::Direction;
+use regs::Ep;
 use regs::Regs;
 use regs::control;
 use regs::control::Csr0lSet;
@@ -10,12 +11,12 @@ use regs::control::RxcsrlSet;
 use regs::control::TxcsrlSet;
 use stores::Logged;
 ghost use mathlib.Core.Path.{_≡_};
-ghost use mathlib.Core.Bool.{not};
+ghost use mathlib.Core.Bool.{not, _||_};
 ghost use Prim.Native.Nat.{_+_, _*_, _≤_, _<_};
 ghost use lib.ListN.{length};
 ghost use Rattle.board.specs.declared.Direction.the-variants.{Out, In};
 ghost use Rattle.stores.specs.Stores.{log, logOf, writeIndex};
-ghost use Rattle.common_impl.specs.Common.{busInit, selected, stallCsr0l, writeCsrl, epTxStall, epRxStall, sendStall, isStalled, flushedZero, enabledZero, isoWritten, waits, flush, flushed, sized, settled, enabledOther, enabled, isochronous, epTxEnable, epRxEnable, underRunCleared, overRunCleared, missed, checkOverrun};
+ghost use Rattle.common_impl.specs.Common.{busInit, selected, stallCsr0l, writeCsrl, epTxStall, epRxStall, sendStall, isStalled, flushedZero, enabledZero, isoWritten, waits, flush, flushed, sized, settled, enabledOther, enabled, isochronous, epTxEnable, epRxEnable, underRunCleared, overRunCleared, checkOverrun};
 
 pub fn bus_init(r: Regs, list: &mut [u16], n: usize) -> Logged
     requires { ⌜ n * 3 + 9 ≤ length (now list) ⌝ }
@@ -350,13 +351,13 @@ fn repair(r: Regs, list: &mut [u16], n: usize) -> Logged
     clear_over_run(b.regs, list, b.n)
 }
 
-// Most often nothing is to be repaired, and then the registers stay where they are.
-fn has_missed(r: Regs) -> bool
-    ensures { λ b. ⌜ b ≡ missed r ⌝ }
+// Most often nothing is to be repaired, and then the registers stay where they are: an endpoint is looked at in its place.
+fn has_missed(e: Ep) -> bool
+    ensures { λ b. ⌜ b ≡ (e .tx .missed || e .rx .missed) ⌝ }
 {
-    let a = control::read_txcsrl(r);
-    let b = control::read_rxcsrl(r);
-    a.under_run | b.over_run
+    let tx = e.tx;
+    let rx = e.rx;
+    tx.missed | rx.missed
 }
 
 pub fn check_overrun(r: Regs, list: &mut [u16], n: usize) -> Logged
@@ -369,7 +370,8 @@ pub fn check_overrun(r: Regs, list: &mut [u16], n: usize) -> Logged
     for index in 1..board::endpoints(board) {
         s = stores::select(s, index);
         m = stores::note_select(list, m, index);
-        if has_missed(s) {
+        let i = index as usize;
+        if has_missed(s.eps[i]) {
             let o = repair(s, list, m);
             s = o.regs;
             m = o.n;

@@ -30,6 +30,14 @@ module _ (r : Regs) where
   unfolding rxcsrlOf
   rx-ready = refl
 
+  pub tx-missed : txcsrlRead r .«under_run» ≡ chosen r In .missed
+  unfolding txcsrlOf
+  tx-missed = refl
+
+  pub rx-missed : rxcsrlRead r .«over_run» ≡ chosen r Out .missed
+  unfolding rxcsrlOf
+  rx-missed = refl
+
   pub rx-count : rxcount r ≡ chosen r Out .len
   unfolding rxcount
   rx-count = refl

@@ -33,6 +33,11 @@ pub unchanged : (r : Regs) (e : ℕ) (d : Direction) (s : Side) → length (r .e
 unfolding withSide
 unchanged r e d s h = ap (withEps r) (set-out (r .eps) e (putSide (getD (r .eps) e noEp) d s) h)
 
+-- a side stands in its endpoint's place of the list: a loop that looks there reads the side
+pub in-place : (r : Regs) (e : ℕ) (d : Direction) → sideAt r e d ≡ sideOf (getD (r .eps) e noEp) d
+unfolding sideAt
+in-place r e d = refl
+
 -- a side is its endpoint's alone
 pub by-eps : (q r : Regs) (e : ℕ) (d : Direction) → q .eps ≡ r .eps → sideAt q e d ≡ sideAt r e d
 unfolding sideAt

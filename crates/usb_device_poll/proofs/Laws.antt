@@ -6,13 +6,17 @@ use mathlib.Core.Path.{_≡_, refl, sym, ap, _∙_}
 use mathlib.Core.Bool.{Bool, true, false, cond}
 use mathlib.Core.List.{List, [], _∷_}
 use borrow.Author.Tests.{eq-eqb, ne-eqb, ltb-false}
-use lib.Dec.{ltb}
-use lib.ListN.{length}
+use native.Mathlib.Decide.{ℕ-discrete}
+use lib.Dec.{eqb, ltb}
+use lib.ListN.{length, getD}
 use lib.Pow.{pow-mono}
 use Rattle.board.specs.Boards.{at-most-six}
+use Rattle.board.specs.declared.Direction.the-variants.{Out}
 use Rattle.regs.specs.declared.Regs.{Regs}
+use Rattle.regs.specs.Registers.{noEp}
+use Rattle.regs.proofs.Sides.{in-place}
+use Rattle.regs.proofs.Readings.{zero-rx-ready, rx-ready}
 use Rattle.regs.specs.declared.control.Csr0l.{Csr0l}
-use Rattle.regs.specs.declared.control.Rxcsrl.{Rxcsrl}
 use Rattle.regs.specs.declared.control.Csr0lSet.the-variants.{ServicedSetupEnd}
 use Rattle.regs.specs.Control.{csr0lRead, rxcsrlRead, count0}
 use Rattle.stores.specs.Stores.{Log, writeIndex, modifyCsr0l}
@@ -104,23 +108,22 @@ module _ (g : Log) (c : ControlState) (f : Flags) where
   unfolding endpointZero
   zero-down t = when-false _ _ t refl
 
--- the walk's RxPktRdy
-module _ (e : ℕ) (r : Regs) where
-  pub ready-zero : {w : Csr0l} → e ≡ 0 → w ≡ csr0lRead r → w .«rx_pkt_rdy» ≡ readyAt e r
+-- the walk's RxPktRdy stands in the selected endpoint's place
+module _ (r : Regs) (e : ℕ) (p : r .index ≡ e) where
+  ready-in-place : getD (r .eps) e noEp .rx .ready ≡ readyAt e r
   unfolding readyAt
-  ready-zero z p = when-true _ _ (eq-eqb e 0 z) (ap (λ (w : Csr0l). w .«rx_pkt_rdy») p)
+  ready-in-place = go (ℕ-discrete e 0)
+    where
+      go : Dec (e ≡ 0) → getD (r .eps) e noEp .rx .ready ≡ cond (eqb e 0) (csr0lRead r .«rx_pkt_rdy») (rxcsrlRead r .«rx_pkt_rdy»)
+      go (yes z) = when-true _ _ (eq-eqb e 0 z) (rw (zero-rx-ready r, in-place r 0 Out, z) refl)
+      go (no n) = when-false _ _ (ne-eqb e 0 n) (rw (rx-ready r, in-place r (r .index) Out, p) refl)
 
-  pub ready-other : {w : Rxcsrl} → (e ≡ 0 → ⊥) → w ≡ rxcsrlRead r → w .«rx_pkt_rdy» ≡ readyAt e r
-  unfolding readyAt
-  ready-other z p = when-false _ _ (ne-eqb e 0 z) (ap (λ (w : Rxcsrl). w .«rx_pkt_rdy») p)
-
-  pub drain-ready : (flags out : ℕ) {b : Bool} → b ≡ readyAt e r → b ≡ true → out ≡ drained flags out e r
+  pub drained-in-place : (flags out : ℕ) {w : ℕ} → w ≡ cond (getD (r .eps) e noEp .rx .ready) out (clear flags e) → w ≡ drained flags out e r
   unfolding drained
-  drain-ready flags out p t = when-true _ _ (sym p ∙ t) refl
+  drained-in-place flags out q = q ∙ ap (λ (b : Bool). cond b out (clear flags e)) ready-in-place
 
-  pub drain-empty : (flags out : ℕ) {b : Bool} {w : ℕ} → b ≡ readyAt e r → b ≡ false → w ≡ clear flags e → w ≡ drained flags out e r
-  unfolding drained
-  drain-empty flags out p t q = when-false _ _ (sym p ∙ t) q
+pub drain-empty : (flags out e : ℕ) {b : Bool} {w : ℕ} → b ≡ false → w ≡ clear flags e → w ≡ cond b out (clear flags e)
+drain-empty flags out e t q = when-false _ _ t q
 
 -- one endpoint of the walk
 pub visited : (flags e : ℕ) (o : Walk) {g : Log} {w : ℕ} → g ≡ writeIndex e (o .log) → w ≡ drained flags (o .out) e (g .regs) → walk g w ≡ visit flags o e

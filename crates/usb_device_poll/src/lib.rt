@@ -5,6 +5,7 @@ use record::Entry;
 use record::Flags;
 use record::Record;
 use record::Refusal;
+use regs::Ep;
 use regs::Regs;
 use regs::control;
 use regs::control::Csr0lSet;
@@ -15,7 +16,7 @@ ghost use lib.ListN.{length};
 ghost use Rattle.laws.specs.Words.{clear, Lowest};
 ghost use Rattle.stores.specs.Stores.{log};
 ghost use Rattle.record.specs.Record.{recordSound};
-ghost use Rattle.usb_device_poll.specs.Round.{withReset, roundOf, walkOf, sentBy, setupTaken, restarted, cutShort, receivedBy, zeroServed, endpointZero, putBack, acceptStep, readyAt, drained, walked, told};
+ghost use Rattle.usb_device_poll.specs.Round.{withReset, roundOf, walkOf, sentBy, setupTaken, restarted, cutShort, receivedBy, zeroServed, endpointZero, putBack, acceptStep, walked, told};
 ghost use Rattle.usb_device_poll.specs.Poll.{outcome, polled, walkedOn, acceptedOn, roundOut, pollLogged, pollServed, pollCall};
 
 // The masks of a Data answer, a bit for each endpoint.
@@ -281,22 +282,13 @@ fn lowest(w: u16) -> u8
     u16::trailing_zeros(w) as u8
 }
 
-fn is_ready(e: u8, r: Regs) -> bool
-    ensures { λ b. ⌜ b ≡ readyAt e r ⌝ }
-{
-    if e == 0 {
-        let w = control::read_csr0l(r);
-        return w.rx_pkt_rdy;
-    }
-    let w = control::read_rxcsrl(r);
-    w.rx_pkt_rdy
-}
-
-fn drain(flags: u16, out: u16, e: u8, r: Regs) -> u16
+// An endpoint is looked at in its place: RxPktRdy, endpoint 0's too, is the ready bit of its receive side.
+fn drain(flags: u16, out: u16, e: u8, x: Ep) -> u16
     requires { ⌜ (flags < 64) × (e < 6) × (out < 64) ⌝ }
-    ensures { λ o. ⌜ (o ≡ drained flags out e r) × (o < 64) ⌝ }
+    ensures { λ o. ⌜ (o ≡ cond (x .rx .ready) out (clear flags e)) × (o < 64) ⌝ }
 {
-    if is_ready(e, r) {
+    let rx = x.rx;
+    if rx.ready {
         return out;
     }
     without(flags, e)
@@ -316,7 +308,8 @@ fn walk(flags: u16, r: Regs, list: &mut [u16], n: usize) -> Walked
         rest = without(rest, e);
         s = stores::select(s, e);
         m = stores::note_select(list, m, e);
-        out = drain(flags, out, e, s);
+        let i = e as usize;
+        out = drain(flags, out, e, s.eps[i]);
     }
     Walked {
         regs: s,

@@ -6,9 +6,10 @@ use mathlib.Core.Logic.{⊎-elim}
 use Prim.Native.Nat.{_-_}
 use lib.ListN.{length}
 use Rattle.stores.proofs.Promises.{index-halves}
-use Rattle.common_impl.proofs.Laws.{nothing-missed, something-missed}
+use Rattle.common_impl.proofs.Laws.{missed-in-place, nothing-missed, something-missed}
 use native.Mathlib.Omega.{arith}
 use borrow.Author.Needs.{needs}
+use Rattle.regs.specs.declared.Regs.{Regs}
 use Rattle.stores.specs.Stores.{log}
 use Rattle.common_impl.proofs.Walk.{Walking, begin, turn, done}
 use Rattle.common_impl.proofs.check_overrun.Statement.{statement}
@@ -32,13 +33,22 @@ select-requires c κs = search needs
 note-select-requires : tie.Need-note-select-requires Inv-loop μ-loop
 note-select-requires c κs = omega (arith, c .before .before .before .loop .inv .six, c .before .before .before .loop .inv .few, c .before .before .before .loop .inv .long)
 
+cast-i : tie.Need-cast-i Inv-loop μ-loop
+cast-i c = search needs
+
+mul-has-missed : tie.Need-mul-has-missed Inv-loop μ-loop
+mul-has-missed c = search needs
+
+element-copy-out-has-missed : tie.Need-element-copy-out-has-missed Inv-loop μ-loop
+element-copy-out-has-missed c = search needs
+
 has-missed-requires : tie.Need-has-missed-requires Inv-loop μ-loop
 has-missed-requires c κs = search needs
 
 repair-requires : tie.Need-repair-requires Inv-loop μ-loop
 repair-requires c κs =
-    let w = c .before .before .before .before .before .before .before .before .before .loop .inv in
-    let m = c .before .before .before .before .before .note-select in
+    let w = c .before .before .before .before .before .before .before .before .before .before .loop .inv in
+    let m = c .before .before .before .before .before .before .note-select in
     omega (arith, w .six, w .few, w .long, m .ensures .0, m .kept)
 
 add-index : tie.Need-add-index Inv-loop μ-loop
@@ -49,13 +59,14 @@ loop-less c = omega arith
 
 loop-again : tie.Need-loop-again Inv-loop μ-loop
 loop-again c =
-    let w = c .before .before .before .before .before .before .before .before .loop .inv in
-    let below = c .before .before .before .before .before .before .before .loop-test .taken in
-    let m = c .before .before .before .before .note-select in
-    let selected = index-halves _ _ _ _ (c .before .before .before .before .before .before .select .ensures) (m .ensures .1) (m .ensures .0) in
+    let w = c .before .before .before .before .before .before .before .before .before .loop .inv in
+    let below = c .before .before .before .before .before .before .before .before .loop-test .taken in
+    let m = c .before .before .before .before .before .note-select in
+    let s = c .before .before .before .before .before .before .before .select in
+    let selected = index-halves _ _ _ _ (s .ensures) (m .ensures .1) (m .ensures .0) in
     ⊎-elim
     (λ x. turn _ _ _ _ _ w below ((λ i. log (x .7 i) (x .6 i) (x .8 i)) ∙ something-missed _ _ selected (x .2 .ensures .0)) (omega (arith, x .8, x .2 .ensures .1, m .ensures .0)) (omega (arith, ap length (x .6), x .2 .kept, m .kept)))
-    (λ x. turn _ _ _ _ _ w below ((λ i. log (x .2 i) (x .1 i) (x .3 i)) ∙ nothing-missed _ _ selected (sym (c .before .has-missed .ensures) ∙ x .0 .left)) (omega (arith, x .3, m .ensures .0)) (omega (arith, ap length (x .1), m .kept)))
+    (λ x. turn _ _ _ _ _ w below ((λ i. log (x .2 i) (x .1 i) (x .3 i)) ∙ nothing-missed _ _ selected (sym (missed-in-place _ _ (ap (λ (r : Regs). r .index) (s .ensures))) ∙ sym (c .before .has-missed .ensures) ∙ x .0 .left)) (omega (arith, x .3, m .ensures .0)) (omega (arith, ap length (x .1), m .kept)))
     (c .if1 .came)
 
 same-length : tie.Need-same-length Inv-loop μ-loop
@@ -75,6 +86,9 @@ check-overrun-spec =
     loop-holds
     select-requires
     note-select-requires
+    cast-i
+    mul-has-missed
+    element-copy-out-has-missed
     has-missed-requires
     repair-requires
     add-index

@@ -1,10 +1,12 @@
 -- `usb_device_poll::walk` meets its contract. Assumes nothing.
+use mathlib.Core.Path.{ap}
 use native.Mathlib.Omega.{arith}
 use borrow.Author.Needs.{needs}
+use Rattle.regs.specs.declared.Regs.{Regs}
 use Rattle.stores.specs.Stores.{log}
 use Rattle.stores.proofs.Promises.{index-halves}
 use Rattle.usb_device_poll.specs.Round.{walk, walked}
-use Rattle.usb_device_poll.proofs.Laws.{visited}
+use Rattle.usb_device_poll.proofs.Laws.{drained-in-place, visited}
 use Rattle.usb_device_poll.proofs.Turns.{Walking, begin, turn, fits, done}
 use Rattle.usb_device_poll.proofs.walk.Statement.{statement}
 use Rattle.usb_device_poll.proofs.walk.Tie as tie
@@ -30,17 +32,28 @@ select-requires c κs = search needs
 note-select-requires : tie.Need-note-select-requires Inv-loop μ-loop
 note-select-requires c κs = fits _ _ _ _ _ (c .before .before .before .before .before .loop .inv) (c .before .before .before .lowest .ensures) (c .before .before .before .before .before .before .before .pre .1)
 
+cast-i : tie.Need-cast-i Inv-loop μ-loop
+cast-i c = search needs
+
+mul-drain : tie.Need-mul-drain Inv-loop μ-loop
+mul-drain c = search needs
+
+element-copy-out-drain : tie.Need-element-copy-out-drain Inv-loop μ-loop
+element-copy-out-drain c = search needs
+
 drain-requires : tie.Need-drain-requires Inv-loop μ-loop
-drain-requires c κs = let w = c .before .before .before .before .before .before .before .before .loop .inv in (w .small, c .before .before .before .before .before .before .lowest .ensures .below, w .under)
+drain-requires c κs = let w = c .before .before .before .before .before .before .before .before .before .loop .inv in (w .small, c .before .before .before .before .before .before .before .lowest .ensures .below, w .under)
 
 loop-less : tie.Need-loop-less Inv-loop μ-loop
-loop-less c = omega (arith, c .before .before .before .before .before .before .without .ensures .0, c .before .before .before .before .before .before .before .lowest .ensures .less)
+loop-less c = omega (arith, c .before .before .before .before .before .before .before .without .ensures .0, c .before .before .before .before .before .before .before .before .lowest .ensures .less)
 
 loop-again : tie.Need-loop-again Inv-loop μ-loop
 loop-again c =
-    let m = c .before .before .before .note-select in
-    let selected = index-halves _ _ _ _ (c .before .before .before .before .before .select .ensures) (m .ensures .1) (m .ensures .0) in
-    turn _ _ _ _ _ _ _ (c .before .before .before .before .before .before .before .before .before .loop .inv) (c .before .before .before .before .before .before .before .lowest .ensures) (c .before .before .before .before .before .before .without .ensures .0) (visited _ _ _ selected (c .drain .ensures .0)) (m .ensures .0) (c .drain .ensures .1) (omega arith)
+    let m = c .before .before .before .before .note-select in
+    let s = c .before .before .before .before .before .before .select in
+    let selected = index-halves _ _ _ _ (s .ensures) (m .ensures .1) (m .ensures .0) in
+    let drained = drained-in-place _ _ (ap (λ (r : Regs). r .index) (s .ensures)) _ _ (c .drain .ensures .0) in
+    turn _ _ _ _ _ _ _ (c .before .before .before .before .before .before .before .before .before .before .loop .inv) (c .before .before .before .before .before .before .before .before .lowest .ensures) (c .before .before .before .before .before .before .before .without .ensures .0) (visited _ _ _ selected drained) (m .ensures .0) (c .drain .ensures .1) (omega arith)
 
 same-length : tie.Need-same-length Inv-loop μ-loop
 same-length c = c .before .loop .inv .long
@@ -60,6 +73,9 @@ walk-spec =
     without-requires
     select-requires
     note-select-requires
+    cast-i
+    mul-drain
+    element-copy-out-drain
     drain-requires
     loop-less
     loop-again
