@@ -3,7 +3,6 @@
 use alloc_endpoint::EndpointConfig;
 use alloc_endpoint::EndpointType;
 use board::Direction;
-use regs::Ep;
 use regs::Regs;
 use regs::control;
 use regs::control::Csr0lSet;
@@ -11,7 +10,7 @@ use regs::control::RxcsrlSet;
 use regs::control::TxcsrlSet;
 use stores::Logged;
 ghost use mathlib.Core.Path.{_≡_};
-ghost use mathlib.Core.Bool.{not, _||_};
+ghost use mathlib.Core.Bool.{not};
 ghost use Prim.Native.Nat.{_+_, _*_, _≤_, _<_};
 ghost use lib.ListN.{length};
 ghost use Rattle.board.specs.declared.Direction.the-variants.{Out, In};
@@ -351,15 +350,7 @@ fn repair(r: Regs, list: &mut [u16], n: usize) -> Logged
     clear_over_run(b.regs, list, b.n)
 }
 
-// Most often nothing is to be repaired, and then the registers stay where they are: an endpoint is looked at in its place.
-fn has_missed(e: Ep) -> bool
-    ensures { λ b. ⌜ b ≡ (e .tx .missed || e .rx .missed) ⌝ }
-{
-    let tx = e.tx;
-    let rx = e.rx;
-    tx.missed | rx.missed
-}
-
+// Most often nothing is to be repaired, and then the registers stay where they are.
 pub fn check_overrun(r: Regs, list: &mut [u16], n: usize) -> Logged
     requires { ⌜ n * 3 + 45 ≤ length (now list) ⌝ }
     ensures { λ o. ⌜ (logOf o (now (list .exit)) ≡ checkOverrun (log r (now (list .entry)) n)) × (o .n ≤ n + 15) ⌝ }
@@ -371,7 +362,7 @@ pub fn check_overrun(r: Regs, list: &mut [u16], n: usize) -> Logged
         s = stores::select(s, index);
         m = stores::note_select(list, m, index);
         let i = index as usize;
-        if has_missed(s.eps[i]) {
+        if regs::has_missed(s.eps[i]) {
             let o = repair(s, list, m);
             s = o.regs;
             m = o.n;

@@ -4,6 +4,7 @@
 use board::Board;
 use board::Direction;
 ghost use mathlib.Core.Path.{_≡_};
+ghost use mathlib.Core.Bool.{_||_};
 ghost use Rattle.regs.specs.Registers.{freshRegs, sideOf, putSide, noSide, sideAt, withSide};
 
 pub mod control;
@@ -131,6 +132,23 @@ fn put_side(e: Ep, d: Direction, s: Side) -> Ep
             Ep { tx: s, rx: rx }
         }
     }
+}
+
+// What the control registers of one endpoint read, for loops over the endpoints: an endpoint is looked at in its place, and the registers
+// are not copied. UnderRun or OverRun; and RxPktRdy, endpoint 0's too.
+pub fn has_missed(e: Ep) -> bool
+    ensures { λ b. ⌜ b ≡ (e .tx .missed || e .rx .missed) ⌝ }
+{
+    let tx = e.tx;
+    let rx = e.rx;
+    tx.missed | rx.missed
+}
+
+pub fn has_received(e: Ep) -> bool
+    ensures { λ b. ⌜ b ≡ e .rx .ready ⌝ }
+{
+    let rx = e.rx;
+    rx.ready
 }
 
 // The side of an endpoint by its number. Past the last endpoint nothing is there.

@@ -118,9 +118,9 @@ module _ (r : Regs) (e : ℕ) (p : r .index ≡ e) where
       go (yes z) = when-true _ _ (eq-eqb e 0 z) (rw (zero-rx-ready r, in-place r 0 Out, z) refl)
       go (no n) = when-false _ _ (ne-eqb e 0 n) (rw (rx-ready r, in-place r (r .index) Out, p) refl)
 
-  pub drained-in-place : (flags out : ℕ) {w : ℕ} → w ≡ cond (getD (r .eps) e noEp .rx .ready) out (clear flags e) → w ≡ drained flags out e r
+  pub drained-in-place : (flags out : ℕ) {b : Bool} {w : ℕ} → b ≡ getD (r .eps) e noEp .rx .ready → w ≡ cond b out (clear flags e) → w ≡ drained flags out e r
   unfolding drained
-  drained-in-place flags out q = q ∙ ap (λ (b : Bool). cond b out (clear flags e)) ready-in-place
+  drained-in-place flags out t q = q ∙ ap (λ (b : Bool). cond b out (clear flags e)) (t ∙ ready-in-place)
 
 pub drain-empty : (flags out e : ℕ) {b : Bool} {w : ℕ} → b ≡ false → w ≡ clear flags e → w ≡ cond b out (clear flags e)
 drain-empty flags out e t q = when-false _ _ t q

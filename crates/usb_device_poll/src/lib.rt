@@ -5,7 +5,6 @@ use record::Entry;
 use record::Flags;
 use record::Record;
 use record::Refusal;
-use regs::Ep;
 use regs::Regs;
 use regs::control;
 use regs::control::Csr0lSet;
@@ -282,13 +281,11 @@ fn lowest(w: u16) -> u8
     u16::trailing_zeros(w) as u8
 }
 
-// An endpoint is looked at in its place: RxPktRdy, endpoint 0's too, is the ready bit of its receive side.
-fn drain(flags: u16, out: u16, e: u8, x: Ep) -> u16
+fn drain(flags: u16, out: u16, e: u8, ready: bool) -> u16
     requires { ⌜ (flags < 64) × (e < 6) × (out < 64) ⌝ }
-    ensures { λ o. ⌜ (o ≡ cond (x .rx .ready) out (clear flags e)) × (o < 64) ⌝ }
+    ensures { λ o. ⌜ (o ≡ cond ready out (clear flags e)) × (o < 64) ⌝ }
 {
-    let rx = x.rx;
-    if rx.ready {
+    if ready {
         return out;
     }
     without(flags, e)
@@ -309,7 +306,7 @@ fn walk(flags: u16, r: Regs, list: &mut [u16], n: usize) -> Walked
         s = stores::select(s, e);
         m = stores::note_select(list, m, e);
         let i = e as usize;
-        out = drain(flags, out, e, s.eps[i]);
+        out = drain(flags, out, e, regs::has_received(s.eps[i]));
     }
     Walked {
         regs: s,

@@ -35,25 +35,28 @@ note-select-requires c κs = fits _ _ _ _ _ (c .before .before .before .before .
 cast-i : tie.Need-cast-i Inv-loop μ-loop
 cast-i c = search needs
 
-mul-drain : tie.Need-mul-drain Inv-loop μ-loop
-mul-drain c = search needs
+mul-has-received : tie.Need-mul-has-received Inv-loop μ-loop
+mul-has-received c = search needs
 
-element-copy-out-drain : tie.Need-element-copy-out-drain Inv-loop μ-loop
-element-copy-out-drain c = search needs
+element-copy-out-has-received : tie.Need-element-copy-out-has-received Inv-loop μ-loop
+element-copy-out-has-received c = search needs
+
+has-received-requires : tie.Need-has-received-requires Inv-loop μ-loop
+has-received-requires c κs = search needs
 
 drain-requires : tie.Need-drain-requires Inv-loop μ-loop
-drain-requires c κs = let w = c .before .before .before .before .before .before .before .before .before .loop .inv in (w .small, c .before .before .before .before .before .before .before .lowest .ensures .below, w .under)
+drain-requires c κs = let w = c .before .before .before .before .before .before .before .before .before .before .loop .inv in (w .small, c .before .before .before .before .before .before .before .before .lowest .ensures .below, w .under)
 
 loop-less : tie.Need-loop-less Inv-loop μ-loop
-loop-less c = omega (arith, c .before .before .before .before .before .before .before .without .ensures .0, c .before .before .before .before .before .before .before .before .lowest .ensures .less)
+loop-less c = omega (arith, c .before .before .before .before .before .before .before .before .without .ensures .0, c .before .before .before .before .before .before .before .before .before .lowest .ensures .less)
 
 loop-again : tie.Need-loop-again Inv-loop μ-loop
 loop-again c =
-    let m = c .before .before .before .before .note-select in
-    let s = c .before .before .before .before .before .before .select in
+    let m = c .before .before .before .before .before .note-select in
+    let s = c .before .before .before .before .before .before .before .select in
     let selected = index-halves _ _ _ _ (s .ensures) (m .ensures .1) (m .ensures .0) in
-    let drained = drained-in-place _ _ (ap (λ (r : Regs). r .index) (s .ensures)) _ _ (c .drain .ensures .0) in
-    turn _ _ _ _ _ _ _ (c .before .before .before .before .before .before .before .before .before .before .loop .inv) (c .before .before .before .before .before .before .before .before .lowest .ensures) (c .before .before .before .before .before .before .before .without .ensures .0) (visited _ _ _ selected drained) (m .ensures .0) (c .drain .ensures .1) (omega arith)
+    let drained = drained-in-place _ _ (ap (λ (r : Regs). r .index) (s .ensures)) _ _ (c .before .has-received .ensures) (c .drain .ensures .0) in
+    turn _ _ _ _ _ _ _ (c .before .before .before .before .before .before .before .before .before .before .before .loop .inv) (c .before .before .before .before .before .before .before .before .before .lowest .ensures) (c .before .before .before .before .before .before .before .before .without .ensures .0) (visited _ _ _ selected drained) (m .ensures .0) (c .drain .ensures .1) (omega arith)
 
 same-length : tie.Need-same-length Inv-loop μ-loop
 same-length c = c .before .loop .inv .long
@@ -74,8 +77,9 @@ walk-spec =
     select-requires
     note-select-requires
     cast-i
-    mul-drain
-    element-copy-out-drain
+    mul-has-received
+    element-copy-out-has-received
+    has-received-requires
     drain-requires
     loop-less
     loop-again
