@@ -3,7 +3,7 @@ use Prim.Native.Nat.{ℕ, _≤_, _<_}
 use native.Mathlib.Nat.{lt-of-lt-of-le}
 use native.Mathlib.Omega.{arith}
 use mathlib.Core.Path.{_≡_, refl, sym, ap, _∙_}
-use mathlib.Core.Bool.{Bool, true, false, cond}
+use mathlib.Core.Bool.{Bool, true, false, not, _||_, cond}
 use mathlib.Core.List.{List, [], _∷_}
 use borrow.Author.Tests.{eq-eqb, ne-eqb, ltb-false}
 use native.Mathlib.Decide.{ℕ-discrete}
@@ -32,7 +32,7 @@ use Rattle.record.specs.declared.Flags.{Flags}
 use Rattle.usb_device_poll.specs.Round.{Round, round, Walk, walk, setupTaken, restarted, cutShort, receivedBy, sentBy, withEp0, zeroBy, zeroServed, endpointZero, acceptedBy, acceptStep, readyAt, drained, visit, walked, told, withReset, withResume, withTx, withRx}
 use Rattle.usb_device_poll.specs.Poll.{PollOutcome, outcome, polled, ended, walkedOn, acceptedOn, roundOut, pollBy, pollLogged, pollServed, pollCall}
 use Rattle.usb_device_poll.specs.declared.PollAnswer.the-variants.{Refused}
-use Rattle.usb_device_poll.specs.declared.PollResult.the-variants.{Reset, Resume, Suspend}
+use Rattle.usb_device_poll.specs.declared.PollResult.the-variants.{Data, Reset, Resume, Suspend}
 use Rattle.record.specs.declared.Refusal.{Refusal}
 use Rattle.record.specs.declared.Entry.{Entry}
 use Rattle.record.specs.declared.Entry.the-variants as entry
@@ -124,6 +124,12 @@ module _ (r : Regs) (e : ℕ) (p : r .index ≡ e) where
 
 pub drain-empty : (flags out e : ℕ) {b : Bool} {w : ℕ} → b ≡ false → w ≡ clear flags e → w ≡ cond b out (clear flags e)
 drain-empty flags out e t q = when-false _ _ t q
+
+-- Data is told where a mask is not empty
+pub told-data : (out sent : ℕ) (setup : Bool) {m : ℕ} → (not (eqb sent 0) || not (eqb out 0) || setup) ≡ true → m ≡ cond setup 1 0
+    → Data (record { «ep_out» = out; «ep_in_complete» = sent; «ep_setup» = m }) ≡ told out sent setup
+unfolding told
+told-data out sent setup t q = when-true _ _ t (ap (λ (n : ℕ). Data (record { «ep_out» = out; «ep_in_complete» = sent; «ep_setup» = n })) q)
 
 -- one endpoint of the walk
 pub visited : (flags e : ℕ) (o : Walk) {g : Log} {w : ℕ} → g ≡ writeIndex e (o .log) → w ≡ drained flags (o .out) e (g .regs) → walk g w ≡ visit flags o e

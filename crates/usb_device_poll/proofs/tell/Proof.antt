@@ -1,5 +1,6 @@
 -- `usb_device_poll::tell` meets its contract. Assumes nothing.
 use Rattle.usb_device_poll.specs.Round.{told}
+use Rattle.usb_device_poll.proofs.Laws.{told-data}
 use borrow.Author.Needs.{needs}
 use Rattle.usb_device_poll.proofs.tell.Statement.{statement}
 use Rattle.usb_device_poll.proofs.tell.Tie as tie
@@ -8,8 +9,7 @@ setup-mask-requires : tie.Need-setup-mask-requires
 setup-mask-requires c κs = search needs
 
 returns : tie.Need-returns
-unfolding told
-returns c = rw (c .if1 .taken, c .before .setup-mask .ensures)
+returns c = told-data _ _ _ (c .if1 .taken) (c .before .setup-mask .ensures)
 
 returns-2 : tie.Need-returns-2
 unfolding told
