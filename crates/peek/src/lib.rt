@@ -1,10 +1,12 @@
 // What `write` and `read` have to know before their first store, because a refused call stores nothing: whether enough is lent, and what the
 // registers of an endpoint read once it is selected, while nothing is selected and nothing listed.
+use board::Direction;
 use record::Record;
 use regs::Regs;
+use regs::Side;
 use regs::control;
 ghost use mathlib.Core.Path.{_≡_};
-ghost use Rattle.regs.specs.Registers.{withIndex};
+ghost use Rattle.regs.specs.Registers.{Whole, withIndex, sideAt};
 ghost use Rattle.peek.specs.Peek.{short, txPktRdy, rxPktRdy, rxCount};
 
 pub fn is_short(k: Record, fifo: usize, list: usize) -> bool
@@ -45,4 +47,11 @@ pub fn rx_count(r: Regs, e: u8) -> u16
         return control::read_count0(s);
     }
     control::read_rxcount(s)
+}
+
+// The side of an endpoint, for the stores that change it alone; and that all six endpoints are there.
+pub fn side(r: Regs, e: u8, d: Direction) -> Side
+    ensures { λ s. ⌜ (s ≡ sideAt r e d) × (Whole r) ⌝ }
+{
+    regs::side_at(r, e, d)
 }

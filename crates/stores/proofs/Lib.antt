@@ -1,3 +1,4 @@
 pub mod Halts
+pub mod OnSides
 pub mod Others
 pub mod Promises

@@ -1,6 +1,7 @@
 -- The stores: what each does to the registers and what it lists. A store goes from a Log to a Log.
 -- Assumes nothing.
-use Prim.Native.Nat.{ℕ, _+_, _*_}
+use Prim.Native.Nat.{ℕ, _+_, _*_, _<_}
+use mathlib.Core.Path.{_≡_}
 use mathlib.Core.Bool.{cond}
 use mathlib.Core.List.{List}
 use lib.Dec.{eqb}
@@ -9,6 +10,7 @@ use Rattle.laws.specs.Words.{raised}
 use Rattle.board.specs.declared.Direction.{Direction}
 use Rattle.board.specs.declared.Direction.the-variants.{Out, In}
 use Rattle.regs.specs.declared.Regs.{Regs}
+use Rattle.regs.specs.declared.Side.{Side}
 use Rattle.regs.specs.declared.control.Csr0l.{Csr0l}
 use Rattle.regs.specs.declared.control.Txcsrl.{Txcsrl}
 use Rattle.regs.specs.declared.control.Rxcsrl.{Rxcsrl}
@@ -16,7 +18,7 @@ use Rattle.regs.specs.declared.control.Csr0lSet.{Csr0lSet}
 use Rattle.regs.specs.declared.control.TxcsrlSet.{TxcsrlSet}
 use Rattle.regs.specs.declared.control.RxcsrlSet.{RxcsrlSet}
 use Rattle.stores.specs.declared.Logged.{Logged}
-use Rattle.regs.specs.Registers.{withIndex, withFaddr, withPower, withEnable, chosen, withChosen, withIso, withMaxp, withLen, enabledOf, enabled}
+use Rattle.regs.specs.Registers.{Whole, withSide, withIndex, withFaddr, withPower, withEnable, chosen, withChosen, withIso, withMaxp, withLen, enabledOf, enabled}
 use Rattle.regs.specs.Control.{csr0lNumber, txcsrlNumber, rxcsrlNumber, csr0lRead, txcsrlRead, rxcsrlRead, csr0lStored, csr0hFlushed, txStored, rxStored, csr0lSet, txcsrlSet, rxcsrlSet}
 
 -- the registers, the lent list, and how many stores stand in it
@@ -159,3 +161,8 @@ modifyIntre d e g = writeIntre d (raised (enabledOf d (g .regs .enable)) e) g
 -- the length is 0 already, or the record is refused (reply 16).
 unfoldable pub writePacket : ℕ → Log → Log
 writePacket n g = cond (eqb n 0) g (noted FIFO n (withChosen (g .regs) In (withLen n (chosen (g .regs) In))) (g .list) (g .count))
+
+-- A store f that changes only a side of the selected endpoint e, told by that side: from the registers with the side s, list l and count n
+-- it leads to those with the side t, list k and count m, whatever the other registers hold.
+pub record OnSide (f : Log → Log) (d : Direction) (e : ℕ) (s : Side) (l : List ℕ) (n : ℕ) (t : Side) (k : List ℕ) (m : ℕ) : Type 0 where
+  pub leads : (r : Regs) → Whole r → r .index ≡ e → e < 6 → log (withSide r e d t) k m ≡ f (log (withSide r e d s) l n)

@@ -2,6 +2,7 @@
 // A function that stores takes how many stores stand in the list and gives back how many stand there now.
 use board::Direction;
 use regs::Regs;
+use regs::Side;
 use regs::control;
 use regs::control::Csr0l;
 use regs::control::Csr0lSet;
@@ -14,6 +15,8 @@ ghost use Prim.Native.Nat.{_+_, _*_, _≤_, _<_};
 ghost use lib.ListN.{length};
 ghost use Rattle.stores.specs.Stores.{log, logOf, listed, noted, selectListed, csrh, maxp, intre, writeFaddr, writePower, writeIndex, writeCsr0l, writeTxcsrl, writeRxcsrl, modifyCsr0l, modifyTxcsrl, modifyRxcsrl, flushCsr0h, writeIso, writeMaxp, writeIntrusbe, writeIntre, modifyIntre, writePacket};
 ghost use Rattle.regs.specs.Registers.{withIndex, withEnable, enabledOf, enabled};
+
+pub mod side;
 
 // Document 01's register numbers.
 const FADDR: u16 = 1;
@@ -48,6 +51,12 @@ const FIFO: u16 = 15;
 
 pub struct Logged {
     pub regs: Regs,
+    pub n: usize,
+}
+
+// The same of one side.
+pub struct Sided {
+    pub side: Side,
     pub n: usize,
 }
 

@@ -1,6 +1,6 @@
 -- From the promises of a function's steps to its definition, a law for each way through it. Assumes nothing.
 use Prim.Native.Nat.{ℕ, _<_, _≤_}
-use mathlib.Core.Path.{_≡_, sym, ap, _∙_}
+use mathlib.Core.Path.{_≡_, sym, ap, subst, _∙_}
 use mathlib.Core.List.{List}
 use native.Mathlib.Omega.{arith}
 use borrow.Author.Tests.{eq-eqb, ne-eqb, lt-ltb, le-ltb}
@@ -8,10 +8,13 @@ use lib.ListN.{length}
 use Rattle.laws.specs.Lists.{pasted}
 use Rattle.board.specs.declared.Span.{Span}
 use Rattle.board.specs.declared.Direction.the-variants.{In}
+use Rattle.regs.specs.declared.Side.{Side}
+use Rattle.regs.specs.declared.Regs.{Regs}
 use Rattle.regs.specs.declared.control.Csr0lSet.the-variants as csr0l
 use Rattle.regs.specs.declared.control.TxcsrlSet.the-variants as txcsrl
 use Rattle.stores.specs.declared.Logged.{Logged}
-use Rattle.stores.specs.Stores.{Log, log, logOf, writeIndex, writePacket, modifyCsr0l, modifyTxcsrl}
+use Rattle.stores.specs.Stores.{Log, log, logOf, selectListed, writeIndex, writePacket, modifyCsr0l, modifyTxcsrl, OnSide}
+use Rattle.stores.proofs.OnSides.{and-then}
 use Rattle.control_state.specs.Control.{withState, withTxLen, decreased}
 use Rattle.control_state.specs.declared.ControlState.{ControlState}
 use Rattle.control_state.specs.declared.ControlStateEnum.{ControlStateEnum}
@@ -24,7 +27,7 @@ use Rattle.usb_device_write.specs.declared.Wrote.the-variants.{Refused}
 use Rattle.usb_device_write.specs.declared.Written.{Written}
 use Rattle.usb_device_write.specs.declared.Verdict.{Verdict}
 use Rattle.usb_device_write.specs.declared.Verdict.the-variants as verdict
-use Rattle.usb_device_write.specs.Write.{WriteOutcome, Ran, ran, leaving, finished, done, tests, blocked, loaded, ended, endsBy, txSize, dataIn, sentDataIn, sentZero, sentOther, sent, taken, writeBy, writeCall}
+use Rattle.usb_device_write.specs.Write.{WriteOutcome, Ran, ran, leaving, finished, done, tests, blocked, loaded, filled, ended, endsBy, txSize, dataIn, sentDataIn, sentZero, sentOther, sent, taken, writeBy, writeCall}
 
 -- reply 6
 pub blocked-at : (k : Record) (ep : ℕ) (l : List ℕ) {a : Logged} {m : List ℕ} → logOf a m ≡ writeIndex ep (log (k .regs) l 0)
@@ -37,6 +40,16 @@ pub loaded-by : (ep n : ℕ) (g : Log) {a o : Log} → a ≡ writeIndex ep g →
 unfolding loaded
 loaded-by ep n g p q = q ∙ ap (writePacket n) p
 
+-- and the ready bit after them, at endpoints 1 to 5: what changes the transmit side alone
+pub filled-by : (size ep : ℕ) (s : Side) (l : List ℕ) {t u : Side} {x j k : List ℕ} {n p m : ℕ} → (n ≡ 1) × (x ≡ selectListed l 0 ep)
+    → OnSide (writePacket size) In ep s x n t j p → OnSide (modifyTxcsrl txcsrl.TxPktRdy) In ep t j p u k m
+    → OnSide (filled size) In ep s (selectListed l 0 ep) 1 u k m
+unfolding filled
+filled-by size ep s l {u = u} {k = k} {n = n} {m = m} at a b =
+    subst (λ (c : ℕ). OnSide (filled size) In ep s (selectListed l 0 ep) c u k m) (at .0)
+    (subst (λ (x : List ℕ). OnSide (filled size) In ep s x n u k m) (at .1)
+    (record { leads = and-then (writePacket size) (modifyTxcsrl txcsrl.TxPktRdy) In ep a b .leads }))
+
 -- what is given back after the last store
 module _ (n : ℕ) (k : Record) {o : Written} {a : Logged} {l : List ℕ} where
   pub done-by : {g : Log} → logOf a l ≡ g → o ≡ finished n k (a .regs) (a .n) → ran o l ≡ done n k g
@@ -46,17 +59,17 @@ module _ (n : ℕ) (k : Record) {o : Written} {a : Logged} {l : List ℕ} where
   pub done-from : {q : Record} → o ≡ finished n q (a .regs) (a .n) → q ≡ k → ran o l ≡ done n k (logOf a l)
   done-from p e = ap (λ (w : Written). ran w l) (p ∙ ap (λ (r : Record). finished n r (a .regs) (a .n)) e)
 
+pub other-filled : (k : Record) (ep n : ℕ) (l : List ℕ) {o : Written} {r : Regs} {m : List ℕ} {c : ℕ} → log r m c ≡ filled n (writeIndex ep (log (k .regs) l 0))
+    → o ≡ finished n k r c → ran o m ≡ sentOther n k (loaded ep n (log (k .regs) l 0))
+unfolding filled sentOther loaded
+other-filled k ep n l {r = r} {c = c} p h = done-by n k {a = record { regs = r; n = c }} p h
+
 module _ (n : ℕ) (k : Record) (g : Log) where
   pub ended-by : (c : ControlState) {o : Written} {b : Logged} {l : List ℕ} {q : Record} → logOf b l ≡ modifyCsr0l csr0l.DataEnd g → q ≡ withControl k c
       → o ≡ finished n q (b .regs) (b .n) → ran o l ≡ ended c n k g
   unfolding ended
   ended-by c {b = b} {l = l} p e h =
       ap (λ (w : Written). ran w l) (h ∙ ap (λ (r : Record). finished n r (b .regs) (b .n)) e) ∙ ap (done n (withControl k c)) p
-
-  pub other-by : {o : Written} {b : Logged} {l : List ℕ} → logOf b l ≡ modifyTxcsrl txcsrl.TxPktRdy g
-      → o ≡ finished n k (b .regs) (b .n) → ran o l ≡ sentOther n k g
-  unfolding sentOther
-  other-by p h = done-by n k p h
 
   pub data-in-by : {a : Log} {o : Ran} → a ≡ modifyCsr0l csr0l.TxPktRdy g → o ≡ dataIn n k a → o ≡ sentDataIn n k g
   unfolding sentDataIn

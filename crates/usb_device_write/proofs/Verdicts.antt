@@ -1,6 +1,7 @@
--- What the tests of a write come to: each verdict has its row's number, and one that is clear leaves room for the packet and its stores.
+-- What the tests of a write come to: each verdict has its row's number, and one that is clear is at one of the six endpoints
+-- and leaves room for the packet and its stores.
 -- Assumes nothing.
-use Prim.Native.Nat.{ℕ, _≤_}
+use Prim.Native.Nat.{ℕ, _≤_, _<_}
 use mathlib.Core.Path.{_≡_, refl, sym, ap, _∙_}
 use mathlib.Core.Bool.{Bool, true, false}
 use native.Mathlib.Omega.{arith}
@@ -9,6 +10,7 @@ use lib.Dec.{leb}
 use Rattle.board.specs.declared.Direction.the-variants.{In}
 use Rattle.peek.specs.Peek.{short}
 use Rattle.peek.proofs.Lent.{lent-enough}
+use Rattle.peek.proofs.Sides.{below-six}
 use Rattle.record.specs.declared.Record.{Record}
 use Rattle.record.specs.Record.{areaOf, needOf, endpointsOf, recordSound, refusalNumber, entryBy}
 use Rattle.usb_device_write.specs.declared.Verdict.{Verdict}
@@ -54,8 +56,8 @@ module _ (k : Record) (ep n f l : ℕ) where
   unfolding tooLong
   not-long p = ltb-false _ _ p
 
-  room : {m : ℕ} → Given k ep n f l m → m ≡ 0 → (n ≤ areaOf k ep In .size) × (needOf k ≤ f) × (384 ≤ l)
-  room (done a s t u) e = let q = lent-enough k f l (a .lent) in (not-long t, q .0, q .1)
+  room : {m : ℕ} → Given k ep n f l m → m ≡ 0 → (ep < 6) × (n ≤ areaOf k ep In .size) × (needOf k ≤ f) × (384 ≤ l)
+  room (done a s t u) e = let q = lent-enough k f l (a .lent) in (below-six k ep (a .there), not-long t, q .0, q .1)
   room (blocks a s) e = absurd (omega arith)
   room (beyond p q r) e = absurd (omega arith)
   room (long a s t) e = absurd (omega arith)
@@ -72,7 +74,7 @@ module _ (k : Record) (ep n f l : ℕ) where
   listed (little p) e = absurd (omega arith)
   listed (unsound p q) e = absurd (omega arith)
 
-  pub clear-fits : {v : Verdict} → v ≡ tests k ep n f l → v ≡ Clear → (n ≤ areaOf k ep In .size) × (needOf k ≤ f) × (384 ≤ l)
+  pub clear-fits : {v : Verdict} → v ≡ tests k ep n f l → v ≡ Clear → (ep < 6) × (n ≤ areaOf k ep In .size) × (needOf k ≤ f) × (384 ≤ l)
   clear-fits is e = room meets (ap verdictNumber (sym is ∙ e))
 
   pub blocked-fits : {v : Verdict} → v ≡ tests k ep n f l → v ≡ Blocked → 384 ≤ l

@@ -114,6 +114,10 @@ blocked k ep l =
 unfoldable pub loaded : ℕ → ℕ → Log → Log
 loaded ep n g = writePacket n (writeIndex ep g)
 
+-- at endpoints 1 to 5, with `txcsrl().modify(|w| w.set_tx_pkt_rdy(true))` after it: the stores that change one side
+unfoldable pub filled : ℕ → Log → Log
+filled n g = modifyTxcsrl txcsrl.TxPktRdy (writePacket n g)
+
 -- NodataPhase: `set_state(Idle)`, `IRQ_EP_TX | 1`
 abbrev pub withEpTx : Flags → ℕ → Flags
 withEpTx f w = record { reset = f .reset; suspend = f .suspend; resume = f .resume; ep0 = f .ep0; «ep_tx» = w; «ep_rx» = f .«ep_rx» }

@@ -7,9 +7,12 @@ use record::Entry;
 use record::Flags;
 use record::Record;
 use record::Refusal;
+use regs::Side;
 use regs::control::Csr0lSet;
 use regs::control::TxcsrlSet;
 use stores::Logged;
+use stores::Sided;
+use stores::side;
 ghost use mathlib.Core.Path.{_≡_};
 ghost use Prim.Native.Nat.{_+_, _*_, _≤_, _<_};
 ghost use lib.ListN.{length};
@@ -17,8 +20,8 @@ ghost use Rattle.board.specs.declared.Direction.the-variants.{In};
 ghost use Rattle.laws.specs.Lists.{pasted};
 ghost use Rattle.laws.specs.Words.{raised};
 ghost use Rattle.record.specs.Record.{areaOf, needOf, withControl};
-ghost use Rattle.stores.specs.Stores.{log, logOf};
-ghost use Rattle.usb_device_write.specs.Write.{ran, finished, wroteNumber, tooLong, untakenIn, notWritable, ownTests, ownTestsAt, testsBy, tests, blocked, loaded, withEpTx, nodataPhase, accepted, ended, txSize, dataIn, sentDataIn, sentZero, sentOther, taken, writeCall};
+ghost use Rattle.stores.specs.Stores.{log, logOf, selectListed, OnSide};
+ghost use Rattle.usb_device_write.specs.Write.{ran, finished, wroteNumber, tooLong, untakenIn, notWritable, ownTests, ownTestsAt, testsBy, tests, blocked, loaded, filled, withEpTx, nodataPhase, accepted, ended, txSize, dataIn, sentDataIn, sentZero, sentOther, taken, writeCall};
 
 pub enum Wrote {
     // how many bytes
@@ -265,24 +268,40 @@ fn send_zero(k: Record, len: usize, a: Logged, list: &mut [u16]) -> Written
     }
 }
 
-fn send_other(k: Record, len: usize, a: Logged, list: &mut [u16]) -> Written
-    requires { ⌜ a .n * 3 + 3 ≤ length (now list) ⌝ }
-    ensures { λ o. ⌜ ran o (now (list .exit)) ≡ sentOther len k (logOf a (now (list .entry))) ⌝ }
+// The stores of a packet at endpoints 1 to 5, after its endpoint is selected: they change the transmit side t alone.
+fn fill(k: Record, t: Side, ep: u8, buf: &[u8], fifo: &mut [u8], list: &mut [u16]) -> Sided
+    requires { ⌜ (length (now buf) ≤ areaOf k ep In .size) × (needOf k ≤ length (now fifo)) × (384 ≤ length (now list)) ⌝ }
+    ensures { λ o. ⌜ (OnSide (filled (length (now (buf .entry)))) In ep t (selectListed (now (list .entry)) 0 ep) 1 (o .side) (now (list .exit)) (o .n)) × (now (fifo .exit) ≡ pasted (now (fifo .entry)) (areaOf k ep In .start) (now (buf .entry))) ⌝ }
 {
-    let b = stores::modify_txcsrl(a.regs, list, a.n, TxcsrlSet::TxPktRdy);
-    finish(k, len, b)
+    let n = stores::note_select(list, 0, ep);
+    let area = record::area(k, ep, Direction::In);
+    fifo::put_bytes(fifo, area, buf);
+    let a = side::write_packet(t, list, n, ep, buf.len() as u16);
+    side::modify_txcsrl(a.side, list, a.n, ep, TxcsrlSet::TxPktRdy)
+}
+
+// The side is taken out of the registers once and put back once: passing all registers from store to store is most of what a write costs.
+fn send_other(k: Record, ep: u8, buf: &[u8], fifo: &mut [u8], list: &mut [u16]) -> Written
+    requires { ⌜ (ep < 6) × (length (now buf) ≤ areaOf k ep In .size) × (needOf k ≤ length (now fifo)) × (384 ≤ length (now list)) ⌝ }
+    ensures { λ o. ⌜ (ran o (now (list .exit)) ≡ sentOther (length (now (buf .entry))) k (loaded ep (length (now (buf .entry))) (log (k .regs) (now (list .entry)) 0))) × (now (fifo .exit) ≡ pasted (now (fifo .entry)) (areaOf k ep In .start) (now (buf .entry))) ⌝ }
+{
+    let r = k.regs;
+    let s = stores::select(r, ep);
+    let t = peek::side(s, ep, Direction::In);
+    let o = fill(k, t, ep, buf, fifo, list);
+    let q = regs::with_side(s, ep, Direction::In, o.side);
+    finish(k, buf.len(), Logged { regs: q, n: o.n })
 }
 
 fn send(k: Record, ep: u8, buf: &[u8], fifo: &mut [u8], list: &mut [u16]) -> Written
-    requires { ⌜ (length (now buf) ≤ areaOf k ep In .size) × (needOf k ≤ length (now fifo)) × (384 ≤ length (now list)) ⌝ }
+    requires { ⌜ (ep < 6) × (length (now buf) ≤ areaOf k ep In .size) × (needOf k ≤ length (now fifo)) × (384 ≤ length (now list)) ⌝ }
     ensures { λ o. ⌜ record { result = o; fifo = now (fifo .exit); list = now (list .exit) } ≡ taken k ep (now (buf .entry)) (now (fifo .entry)) (now (list .entry)) ⌝ }
 {
-    let len = buf.len();
-    let a = load(k, ep, buf, fifo, list);
     if ep == 0 {
-        return send_zero(k, len, a, list);
+        let a = load(k, ep, buf, fifo, list);
+        return send_zero(k, buf.len(), a, list);
     }
-    send_other(k, len, a, list)
+    send_other(k, ep, buf, fifo, list)
 }
 
 pub fn write(k: Record, ep: u8, buf: &[u8], fifo: &mut [u8], list: &mut [u16]) -> Written

@@ -1,4 +1,5 @@
 -- `usb_device_write::send` meets its contract. Assumes nothing.
+use mathlib.Core.Path.{refl}
 use Rattle.usb_device_write.proofs.Laws.{zero-taken, other-taken}
 use borrow.Author.Needs.{needs}
 use Rattle.usb_device_write.proofs.send.Statement.{statement}
@@ -29,7 +30,7 @@ same-length-4 : tie.Need-same-length-4
 same-length-4 c = search needs
 
 returns-2 : tie.Need-returns-2
-returns-2 c = search (other-taken, needs)
+returns-2 c = other-taken _ _ _ _ _ refl (c .before .before .before .before .send-other .ensures .1) (c .before .before .before .before .before .before .before .if1 .left) (c .before .before .before .before .send-other .ensures .0)
 
 pub send-spec : {M : Type 1} → statement M
 send-spec =
