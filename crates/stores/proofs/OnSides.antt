@@ -13,13 +13,11 @@ use Rattle.regs.specs.declared.Side.{Side}
 use Rattle.regs.specs.declared.Ep.{Ep}
 use Rattle.regs.specs.declared.Regs.{Regs}
 use Rattle.regs.specs.declared.control.Txcsrl.{Txcsrl}
-use Rattle.regs.specs.declared.control.Rxcsrl.{Rxcsrl}
 use Rattle.regs.specs.declared.control.TxcsrlSet.{TxcsrlSet}
-use Rattle.regs.specs.declared.control.RxcsrlSet.{RxcsrlSet}
-use Rattle.regs.specs.Registers.{noEp, sideOf, putSide, withEps, Whole, sideAt, withSide, chosen, withChosen, withIso, withMaxp, withLen}
-use Rattle.regs.specs.Control.{txcsrlNumber, rxcsrlNumber, txcsrlOf, rxcsrlOf, txStored, rxStored, txcsrlSet, rxcsrlSet}
+use Rattle.regs.specs.Registers.{noEp, sideOf, putSide, withEps, Whole, sideAt, withSide, chosen, withChosen, withLen}
+use Rattle.regs.specs.Control.{txcsrlNumber, txcsrlOf, txStored, txcsrlSet}
 use Rattle.regs.proofs.Sides.{side-same, keeps-index}
-use Rattle.stores.specs.Stores.{Log, log, listed, noted, TXCSRL, RXCSRL, FIFO, csrh, maxp, writeTxcsrl, writeRxcsrl, modifyTxcsrl, modifyRxcsrl, writeIso, writeMaxp, writePacket, OnSide}
+use Rattle.stores.specs.Stores.{Log, log, listed, noted, TXCSRL, FIFO, writeTxcsrl, modifyTxcsrl, writePacket, OnSide}
 
 -- a side put back as it was
 put-back : (x : Ep) (d : Direction) → putSide x d (sideOf x d) ≡ x
@@ -83,11 +81,6 @@ module _ (e : ℕ) (s : Side) (l : List ℕ) (n : ℕ) {t : Side} {k : List ℕ}
   unfolding writeTxcsrl
   tx-written w p q z = record { leads = on-side (txStored w) TXCSRL (txcsrlNumber w) In e s l n (z .0 ∙ p) (z .2 ∙ ap (listed l n TXCSRL e) q) (z .1) .leads }
 
-  pub rx-written : (w : Rxcsrl) {u : Side} {v : ℕ} → u ≡ rxStored w s → v ≡ rxcsrlNumber w → (t ≡ u) × (m ≡ n + 1) × (k ≡ listed l n RXCSRL e v)
-      → OnSide (writeRxcsrl w) Out e s l n t k m
-  unfolding writeRxcsrl
-  rx-written w p q z = record { leads = on-side (rxStored w) RXCSRL (rxcsrlNumber w) Out e s l n (z .0 ∙ p) (z .2 ∙ ap (listed l n RXCSRL e) q) (z .1) .leads }
-
   pub tx-modified : (x : TxcsrlSet) {v w : Txcsrl} → v ≡ txcsrlOf s → w ≡ txcsrlSet x v → OnSide (writeTxcsrl w) In e s l n t k m
       → OnSide (modifyTxcsrl x) In e s l n t k m
   unfolding modifyTxcsrl
@@ -95,23 +88,6 @@ module _ (e : ℕ) (s : Side) (l : List ℕ) (n : ℕ) {t : Side} {k : List ℕ}
     leads = λ r six is h. f .leads r six is h
         ∙ ap (λ (w : Txcsrl). writeTxcsrl w (log (withSide r e In s) l n)) (q ∙ ap (txcsrlSet x) (p ∙ ap txcsrlOf (sym (reads r six e is h In s))));
   }
-
-  pub rx-modified : (x : RxcsrlSet) {v w : Rxcsrl} → v ≡ rxcsrlOf s → w ≡ rxcsrlSet x v → OnSide (writeRxcsrl w) Out e s l n t k m
-      → OnSide (modifyRxcsrl x) Out e s l n t k m
-  unfolding modifyRxcsrl
-  rx-modified x p q f = record {
-    leads = λ r six is h. f .leads r six is h
-        ∙ ap (λ (w : Rxcsrl). writeRxcsrl w (log (withSide r e Out s) l n)) (q ∙ ap (rxcsrlSet x) (p ∙ ap rxcsrlOf (sym (reads r six e is h Out s))));
-  }
-
-  pub iso-written : (d : Direction) {v : ℕ} → v ≡ csrh d → (t ≡ withIso s) × (m ≡ n + 1) × (k ≡ listed l n v e 64) → OnSide (writeIso d) d e s l n t k m
-  unfolding writeIso
-  iso-written d q z = record { leads = on-side withIso (csrh d) 64 d e s l n (z .0) (z .2 ∙ ap (λ (i : ℕ). listed l n i e 64) q) (z .1) .leads }
-
-  pub maxp-written : (d : Direction) (size : ℕ) {v : ℕ} → v ≡ maxp d → (t ≡ withMaxp size s) × (m ≡ n + 1) × (k ≡ listed l n v e size)
-      → OnSide (writeMaxp d size) d e s l n t k m
-  unfolding writeMaxp
-  maxp-written d size q z = record { leads = on-side (withMaxp size) (maxp d) size d e s l n (z .0) (z .2 ∙ ap (λ (i : ℕ). listed l n i e size) q) (z .1) .leads }
 
   pub packet-written : (size : ℕ) → (size ≡ 0 → ⊥) → (t ≡ withLen size s) × (m ≡ n + 1) × (k ≡ listed l n FIFO e size) → OnSide (writePacket size) In e s l n t k m
   unfolding writePacket

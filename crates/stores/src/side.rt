@@ -1,19 +1,16 @@
 // The stores that change only a side of the selected endpoint, told by that side. A function that makes several of them in a row takes the
 // side out of the registers once and puts it back once, instead of copying all registers at every store.
 use crate::Sided;
-use board::Direction;
 use regs::Side;
 use regs::control;
-use regs::control::Rxcsrl;
-use regs::control::RxcsrlSet;
 use regs::control::Txcsrl;
 use regs::control::TxcsrlSet;
 ghost use mathlib.Core.Path.{_≡_};
 ghost use Prim.Native.Nat.{_+_, _*_, _≤_};
 ghost use lib.ListN.{length};
-ghost use Rattle.board.specs.declared.Direction.the-variants.{Out, In};
-ghost use Rattle.regs.specs.Control.{txcsrlOf, rxcsrlOf};
-ghost use Rattle.stores.specs.Stores.{listed, OnSide, writeTxcsrl, writeRxcsrl, modifyTxcsrl, modifyRxcsrl, writeIso, writeMaxp, writePacket};
+ghost use Rattle.board.specs.declared.Direction.the-variants.{In};
+ghost use Rattle.regs.specs.Control.{txcsrlOf};
+ghost use Rattle.stores.specs.Stores.{listed, OnSide, writeTxcsrl, modifyTxcsrl, writePacket};
 
 // The store that left this side of endpoint e, listed.
 fn note(s: Side, list: &mut [u16], n: usize, register: u16, e: u8, value: u16) -> Sided
@@ -39,22 +36,6 @@ fn txcsrl_of(s: Side) -> Txcsrl
     }
 }
 
-// What RXCSRL reads of a side.
-fn rxcsrl_of(s: Side) -> Rxcsrl
-    ensures { λ w. ⌜ w ≡ rxcsrlOf s ⌝ }
-{
-    Rxcsrl {
-        rx_pkt_rdy: s.ready,
-        fifo_full: false,
-        over_run: s.missed,
-        data_error: false,
-        flush_fifo: false,
-        send_stall: s.stall,
-        sent_stall: s.stalled,
-        clr_data_tog: false,
-    }
-}
-
 pub fn write_txcsrl(s: Side, list: &mut [u16], n: usize, e: u8, w: Txcsrl) -> Sided
     requires { ⌜ n * 3 + 3 ≤ length (now list) ⌝ }
     ensures { λ o. ⌜ (OnSide (writeTxcsrl w) In e s (now (list .entry)) n (o .side) (now (list .exit)) (o .n)) × (o .n ≡ n + 1) ⌝ }
@@ -63,46 +44,12 @@ pub fn write_txcsrl(s: Side, list: &mut [u16], n: usize, e: u8, w: Txcsrl) -> Si
     note(t, list, n, crate::TXCSRL, e, control::txcsrl_number(w))
 }
 
-pub fn write_rxcsrl(s: Side, list: &mut [u16], n: usize, e: u8, w: Rxcsrl) -> Sided
-    requires { ⌜ n * 3 + 3 ≤ length (now list) ⌝ }
-    ensures { λ o. ⌜ (OnSide (writeRxcsrl w) Out e s (now (list .entry)) n (o .side) (now (list .exit)) (o .n)) × (o .n ≡ n + 1) ⌝ }
-{
-    let t = control::rx_stored(w, s);
-    note(t, list, n, crate::RXCSRL, e, control::rxcsrl_number(w))
-}
-
 pub fn modify_txcsrl(s: Side, list: &mut [u16], n: usize, e: u8, x: TxcsrlSet) -> Sided
     requires { ⌜ n * 3 + 3 ≤ length (now list) ⌝ }
     ensures { λ o. ⌜ (OnSide (modifyTxcsrl x) In e s (now (list .entry)) n (o .side) (now (list .exit)) (o .n)) × (o .n ≡ n + 1) ⌝ }
 {
     let w = control::txcsrl_set(x, txcsrl_of(s));
     write_txcsrl(s, list, n, e, w)
-}
-
-pub fn modify_rxcsrl(s: Side, list: &mut [u16], n: usize, e: u8, x: RxcsrlSet) -> Sided
-    requires { ⌜ n * 3 + 3 ≤ length (now list) ⌝ }
-    ensures { λ o. ⌜ (OnSide (modifyRxcsrl x) Out e s (now (list .entry)) n (o .side) (now (list .exit)) (o .n)) × (o .n ≡ n + 1) ⌝ }
-{
-    let w = control::rxcsrl_set(x, rxcsrl_of(s));
-    write_rxcsrl(s, list, n, e, w)
-}
-
-pub fn write_iso(s: Side, list: &mut [u16], n: usize, d: Direction, e: u8) -> Sided
-    requires { ⌜ n * 3 + 3 ≤ length (now list) ⌝ }
-    ensures { λ o. ⌜ (OnSide (writeIso d) d e s (now (list .entry)) n (o .side) (now (list .exit)) (o .n)) × (o .n ≡ n + 1) ⌝ }
-{
-    let mut t = s;
-    t.iso = true;
-    note(t, list, n, crate::csrh_of(d), e, 64)
-}
-
-pub fn write_maxp(s: Side, list: &mut [u16], n: usize, d: Direction, e: u8, size: u16) -> Sided
-    requires { ⌜ n * 3 + 3 ≤ length (now list) ⌝ }
-    ensures { λ o. ⌜ (OnSide (writeMaxp d size) d e s (now (list .entry)) n (o .side) (now (list .exit)) (o .n)) × (o .n ≡ n + 1) ⌝ }
-{
-    let mut t = s;
-    t.maxp = size;
-    note(t, list, n, crate::maxp_of(d), e, size)
 }
 
 pub fn write_packet(s: Side, list: &mut [u16], n: usize, e: u8, m: u16) -> Sided
