@@ -4,11 +4,11 @@ use native.Mathlib.Omega.{arith}
 use native.Mathlib.Decide.{decLt}
 use native.Mathlib.Numerals.{add-one}
 use mathlib.Core.Path.{_≡_, refl, sym, ap}
-use mathlib.Core.List.{List, [], _∷_, _++_, append-assoc}
+use mathlib.Core.List.{List, [], _∷_, _++_}
 use lib.ListN.{length, getD, length-append}
 use Rattle.report.specs.Text.{Wrote, decimal, field, fields}
 use Rattle.report.proofs.Decimal.{more-digits, length-3}
-use Rattle.report.proofs.Appended.{then, said}
+use Rattle.report.proofs.Appended.{then, said, fields-append}
 use Rattle.regs.specs.declared.Regs.{Regs}
 use Rattle.alloc_endpoint.specs.declared.EndpointData.{EndpointData}
 use Rattle.alloc_endpoint.specs.Endpoints.{blank}
@@ -55,11 +55,6 @@ pub stores-all : {a b : List ℕ} {at m n : ℕ} (l : List ℕ) (i : ℕ) → i 
 stores-all l i e w = said (ap (stores l) e) w
 
 -- lists of fields, one after another
-fields-append : (xs ys : List ℕ) → fields (xs ++ ys) ≡ fields xs ++ fields ys
-unfolding fields
-fields-append [] ys = refl
-fields-append (x ∷ xs) ys = rw (fields-append xs ys) (sym (append-assoc (field x) (fields xs) (fields ys)))
-
 pub on : {a b c : List ℕ} {at m r : ℕ} (xs ys : List ℕ) → Wrote a b at m (fields xs) → Wrote b c m r (fields ys) → Wrote a c at r (fields (xs ++ ys))
 on xs ys v w = said (sym (fields-append xs ys)) (then v w)
 

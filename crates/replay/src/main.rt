@@ -22,22 +22,13 @@ fn length_at(s: &[u8], at: usize) -> usize
     wide(s[at]) + 256 * wide(s[at + 1]) + 65536 * wide(s[at + 2])
 }
 
-fn least(a: usize, b: usize) -> usize
-    ensures { λ r. ⌜ r ≤ b ⌝ }
-{
-    if a < b {
-        return a;
-    }
-    b
-}
-
 fn put_many(s: &[u8], detail: bool)
     requires { ⌜ length (now s) < 65538 ⌝ }
 {
     let mut at: usize = 0;
     while at + 4 <= s.len() {
         let start = at + 4;
-        let n = least(length_at(s, at), s.len() - start);
+        let n = reporter::least(length_at(s, at), s.len() - start);
         reporter::put_report(&s[start..start + n], detail);
         at = start + n;
     }

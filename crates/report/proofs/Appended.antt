@@ -49,8 +49,8 @@ more-ends {a} {b} {c} {at} {m} {r} {n} h l v w =
 pub room : {a b : List ℕ} {at m n : ℕ} → n < 2 ^ 32 → Wrote a b at m (decimal (n / 10)) → at + 10 ≤ length a → m < length b
 room {a} {b} {at} {m} {n} l v h = omega (arith, v .count, kept v, length-9 (n / 10) (omega arith))
 
--- fields, one more at the end
-fields-append : (xs ys : List ℕ) → fields (xs ++ ys) ≡ fields xs ++ fields ys
+-- fields, more at the end
+pub fields-append : (xs ys : List ℕ) → fields (xs ++ ys) ≡ fields xs ++ fields ys
 unfolding fields
 fields-append [] ys = refl
 fields-append (x ∷ xs) ys = rw (fields-append xs ys) (sym (append-assoc (field x) (fields xs) (fields ys)))

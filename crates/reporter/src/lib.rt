@@ -57,7 +57,7 @@ fn put_bad(trace: &[u8], line: &mut [u8], at: u32)
     put(line, len);
 }
 
-fn least(a: usize, b: usize) -> usize
+pub fn least(a: usize, b: usize) -> usize
     ensures { λ r. ⌜ r ≤ b ⌝ }
 {
     if a < b {
