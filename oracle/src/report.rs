@@ -116,7 +116,7 @@ fn poll_values(polled: &PollResult, out: &mut Vec<u8>) {
 }
 
 /// The two lines more of the detail report.
-fn detail_lines(machine: &Machine, out: &mut Vec<u8>) {
+pub fn detail_lines(machine: &Machine, out: &mut Vec<u8>) {
     out.extend_from_slice(b"  stores");
     machine.model(|m| {
         for store in &m.stores {
