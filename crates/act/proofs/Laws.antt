@@ -19,19 +19,24 @@ use Rattle.record.proofs.Rows.{none-refused}
 use Rattle.peek.specs.Peek.{short}
 use Rattle.peek.proofs.Lent.{lent-enough}
 use Rattle.peek.proofs.Readings as readings
-use Rattle.usb_device_impl.specs.declared.AllocEp.{AllocEp}
+use Rattle.usb_device_alloc.specs.declared.AllocEp.{AllocEp}
 use Rattle.usb_device_impl.specs.declared.Called.{Called}
-use Rattle.usb_device_impl.specs.declared.IsStalled.{IsStalled}
+use Rattle.usb_device_stall.specs.declared.IsStalled.{IsStalled}
 use Rattle.usb_device_impl.specs.Calls as impl
-use Rattle.usb_device_write.specs.declared.Wrote.{Wrote}
-use Rattle.usb_device_write.specs.declared.Wrote.the-variants as wrote
-use Rattle.usb_device_write.specs.declared.Written.{Written}
-use Rattle.usb_device_write.specs.Write.{WriteOutcome, wroteNumber, wroteValues, writeCall}
+use Rattle.usb_device_alloc.specs.Calls as impl-alloc
+use Rattle.usb_device_stall.specs.Calls as impl-stall
+use Rattle.write_zero.specs.declared.Wrote.{Wrote}
+use Rattle.write_zero.specs.declared.Wrote.the-variants as wrote
+use Rattle.write_zero.specs.declared.Written.{Written}
+use Rattle.usb_device_write.specs.Write.{WriteOutcome, writeCall}
+use Rattle.write_zero.specs.Write.{wroteNumber, wroteValues}
 use Rattle.usb_device_write.proofs.Answers as write-answers
-use Rattle.usb_device_read.specs.declared.Got.{Got}
-use Rattle.usb_device_read.specs.declared.Got.the-variants as got
-use Rattle.usb_device_read.specs.declared.Fetched.{Fetched}
-use Rattle.usb_device_read.specs.Read.{ReadOutcome, gotNumber, gotValues, ownTestsAt, testsBy, tests, waiting, readBy, readCall}
+use Rattle.read_zero.specs.declared.Got.{Got}
+use Rattle.read_zero.specs.declared.Got.the-variants as got
+use Rattle.read_zero.specs.declared.Fetched.{Fetched}
+use Rattle.usb_device_read.specs.Read.{ReadOutcome, readBy, readCall}
+use Rattle.read_zero.specs.Read.{gotNumber, gotValues}
+use Rattle.read_tests.specs.Read.{ownTestsAt, testsBy, tests, waiting}
 use Rattle.usb_device_read.proofs.Answers as read-answers
 use Rattle.usb_device_poll.specs.declared.Polled.{Polled}
 use Rattle.usb_device_poll.specs.Poll.{PollOutcome, pollNumber, pollValues}
@@ -45,7 +50,7 @@ use Rattle.entries.specs.declared.Entry.the-variants.{Write, Read, Arrival}
 use Rattle.entries.specs.Entries.{codeOf}
 use Rattle.answers.specs.Shown.{Gives, wroteFits, gotFits}
 use Rattle.answers.specs.declared.Acted.{Acted}
-use Rattle.act.specs.Act.{Outcome, state, called, told, allocated, written, fetched, polled, interrupted, happened, arrived, collected, packet, actedOn, acted, Acts, Within}
+use Rattle.act.specs.Act.{state, called, told, allocated, written, fetched, polled, interrupted, happened, arrived, collected, packet, actedOn, acted, Acts, Within}
 
 handed-on : (s : List ℕ) (start n : ℕ) → take (start + n - start) (drop start s) ≡ packet s start n
 handed-on s start n = ap (λ (m : ℕ). take m (drop start s)) (add-sub-cancel-left start n)
@@ -65,10 +70,10 @@ module _ {b a : List ℕ} {r : Acted} {code : ℕ} where
         subst (λ (o : impl.Outcome). Acts b a r f l code (called f o)) e
         (record { kept = λ i. state (g .kept i) f l; counted = g .counted; shown = g .shown })
 
-    pub by-told : {x : IsStalled} {o : impl.ToldOutcome} → record { call = x; list = l } ≡ o
-        → Gives b a r code (x .«record») (x .stores) (impl.toldNumber (x .answer)) (impl.toldValues (x .answer)) → Acts b a r f l code (told f o)
+    pub by-told : {x : IsStalled} {o : impl-stall.ToldOutcome} → record { call = x; list = l } ≡ o
+        → Gives b a r code (x .«record») (x .stores) (impl-stall.toldNumber (x .answer)) (impl-stall.toldValues (x .answer)) → Acts b a r f l code (told f o)
     by-told e g =
-        subst (λ (o : impl.ToldOutcome). Acts b a r f l code (told f o)) e
+        subst (λ (o : impl-stall.ToldOutcome). Acts b a r f l code (told f o)) e
         (record { kept = λ i. state (g .kept i) f l; counted = g .counted; shown = g .shown })
 
     pub by-polled : {x : Polled} {o : PollOutcome} → record { result = x; list = l } ≡ o
@@ -85,7 +90,7 @@ module _ {b a : List ℕ} {r : Acted} {code : ℕ} where
 
   module _ (f l : List ℕ) where
     pub by-allocated : {x o : AllocEp} → x ≡ o
-        → Gives b a r code (x .«record») 0 (impl.allocationNumber (x .answer)) (impl.allocationValues (x .answer)) → Acts b a r f l code (allocated f l o)
+        → Gives b a r code (x .«record») 0 (impl-alloc.allocationNumber (x .answer)) (impl-alloc.allocationValues (x .answer)) → Acts b a r f l code (allocated f l o)
     by-allocated e g =
         subst (λ (o : AllocEp). Acts b a r f l code (allocated f l o)) e
         (record { kept = λ i. state (g .kept i) f l; counted = g .counted; shown = g .shown })

@@ -4,20 +4,25 @@ use Prim.Native.Nat.{ℕ, _+_, _≤_}
 use mathlib.Core.Path.{_≡_}
 use mathlib.Core.List.{List, []}
 use lib.ListN.{length, take, drop, replicate}
-use Rattle.alloc_endpoint.specs.Endpoints.{ask}
+use Rattle.endpoints.specs.Endpoints.{ask}
 use Rattle.record.specs.declared.Record.{Record}
-use Rattle.usb_device_impl.specs.declared.AllocEp.{AllocEp}
+use Rattle.usb_device_alloc.specs.declared.AllocEp.{AllocEp}
 use Rattle.usb_device_impl.specs.Calls as impl
-use Rattle.usb_device_write.specs.Write.{WriteOutcome, writeCall, wroteNumber, wroteValues}
-use Rattle.usb_device_read.specs.Read.{ReadOutcome, readCall, gotNumber, gotValues}
+use Rattle.usb_device_alloc.specs.Calls as impl-alloc
+use Rattle.usb_device_reset.specs.Calls as impl-reset
+use Rattle.usb_device_stall.specs.Calls as impl-stall
+use Rattle.usb_device_write.specs.Write.{WriteOutcome, writeCall}
+use Rattle.write_zero.specs.Write.{wroteNumber, wroteValues}
+use Rattle.usb_device_read.specs.Read.{ReadOutcome, readCall}
+use Rattle.read_zero.specs.Read.{gotNumber, gotValues}
 use Rattle.usb_device_poll.specs.Poll.{PollOutcome, pollCall, pollNumber, pollValues}
 use Rattle.usb_device_interrupt.specs.declared.OnInterrupt.{OnInterrupt}
 use Rattle.usb_device_interrupt.specs.Interrupt.{interruptCall, interruptNumber}
 use Rattle.host.specs.declared.Host.{Host}
 use Rattle.host.specs.declared.Collected.{Collected}
 use Rattle.host.specs.Host as host
-use Rattle.entries.specs.declared.BusEvent.{BusEvent}
-use Rattle.entries.specs.declared.BusEvent.the-variants as bus
+use Rattle.arguments.specs.declared.BusEvent.{BusEvent}
+use Rattle.arguments.specs.declared.BusEvent.the-variants as bus
 use Rattle.entries.specs.declared.Entry.{Entry}
 use Rattle.entries.specs.declared.Entry.the-variants.{Allocate, Init, Reset, Address, Write, Read, Stall, IsStalled, Poll, Interrupt, Enable, Arrival, Collect, Bus, SetupEnd, Underrun, Overrun}
 use Rattle.answers.specs.Shown.{Shows}
@@ -47,12 +52,12 @@ called f o = record {
   values = [];
 }
 
-abbrev pub told : List ℕ → impl.ToldOutcome → Outcome
+abbrev pub told : List ℕ → impl-stall.ToldOutcome → Outcome
 told f o = record {
   state = state (o .call .«record») f (o .list);
   stores = o .call .stores;
-  reply = impl.toldNumber (o .call .answer);
-  values = impl.toldValues (o .call .answer);
+  reply = impl-stall.toldNumber (o .call .answer);
+  values = impl-stall.toldValues (o .call .answer);
 }
 
 -- a call that is lent no list stores nothing
@@ -60,8 +65,8 @@ abbrev pub allocated : List ℕ → List ℕ → AllocEp → Outcome
 allocated f l o = record {
   state = state (o .«record») f l;
   stores = 0;
-  reply = impl.allocationNumber (o .answer);
-  values = impl.allocationValues (o .answer);
+  reply = impl-alloc.allocationNumber (o .answer);
+  values = impl-alloc.allocationValues (o .answer);
 }
 
 abbrev pub written : WriteOutcome → Outcome
@@ -117,14 +122,14 @@ packet s start n = take n (drop start s)
 
 -- an entry of the trace s. A read is lent a buffer of its length, all zeros.
 abbrev pub actedOn : List ℕ → Entry → Record → List ℕ → List ℕ → Outcome
-actedOn s (Allocate d w t n) k f l = allocated f l (impl.allocEpCall k (ask t d n) w)
+actedOn s (Allocate d w t n) k f l = allocated f l (impl-alloc.allocEpCall k (ask t d n) w)
 actedOn s Init k f l = called f (impl.busInitCall k l)
-actedOn s Reset k f l = called f (impl.resetCall k l)
+actedOn s Reset k f l = called f (impl-reset.resetCall k l)
 actedOn s (Address a) k f l = called f (impl.addressCall k a l)
 actedOn s (Write e start n) k f l = written (writeCall k e (packet s start n) f l)
 actedOn s (Read e n) k f l = fetched f (readCall k e f l (replicate n 0))
-actedOn s (Stall e d on) k f l = called f (impl.setStalledCall k e d on l)
-actedOn s (IsStalled e d) k f l = told f (impl.isStalledCall k e d l)
+actedOn s (Stall e d on) k f l = called f (impl-stall.setStalledCall k e d on l)
+actedOn s (IsStalled e d) k f l = told f (impl-stall.isStalledCall k e d l)
 actedOn s Poll k f l = polled f (pollCall k l)
 actedOn s Interrupt k f l = interrupted f l (interruptCall k)
 actedOn s Enable k f l = called f (impl.enableCall k l)

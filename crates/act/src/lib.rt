@@ -1,6 +1,6 @@
 // One entry of a trace, carried out: the call or event that it names, and its line of the report.
 use answers::Acted;
-use entries::BusEvent;
+use arguments::BusEvent;
 use entries::Entry;
 use host::Host;
 use record::Record;
@@ -79,10 +79,10 @@ pub fn act(
         Entry::Allocate(d, w, t, n) => answers::allocated(
             line,
             code,
-            usb_device_impl::alloc_ep(k, d, w, t, n),
+            usb_device_alloc::alloc_ep(k, d, w, t, n),
         ),
         Entry::Init => answers::called(line, code, usb_device_impl::bus_init(k, list)),
-        Entry::Reset => answers::called(line, code, usb_device_impl::reset(k, list)),
+        Entry::Reset => answers::called(line, code, usb_device_reset::reset(k, list)),
         Entry::Address(a) => answers::called(
             line,
             code,
@@ -100,12 +100,12 @@ pub fn act(
         Entry::Stall(ep, d, on) => answers::called(
             line,
             code,
-            usb_device_impl::set_stalled(k, list, ep, d, on),
+            usb_device_stall::set_stalled(k, list, ep, d, on),
         ),
         Entry::IsStalled(ep, d) => answers::told(
             line,
             code,
-            usb_device_impl::is_stalled(k, list, ep, d),
+            usb_device_stall::is_stalled(k, list, ep, d),
         ),
         Entry::Poll => answers::polled(line, code, usb_device_poll::poll(k, list)),
         Entry::Interrupt => answers::interrupted(line, code, usb_device_interrupt::on_interrupt(k)),

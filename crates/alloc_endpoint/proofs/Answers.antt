@@ -2,8 +2,8 @@
 -- Assumes nothing.
 use mathlib.Core.Path.{_≡_, refl, sym, subst, ap, _∙_}
 use mathlib.Core.Logic.{_↔_}
-use mathlib.Core.Bool.{Bool, true, false, not, cond, _&&_}
-use mathlib.Core.List.{List, [], _∷_}
+use mathlib.Core.Bool.{Bool, true, false, cond}
+use mathlib.Core.List.{List}
 use Prim.Native.Nat.{ℕ, zero, suc, _-_, _≤_, _<_}
 use native.Mathlib.Omega.{arith}
 use native.Mathlib.Decide.{ℕ-discrete}
@@ -14,20 +14,19 @@ use Rattle.board.specs.declared.Row.{Row}
 use Rattle.board.specs.declared.Board.{Board}
 use Rattle.board.specs.Table.{rowAt}
 use Rattle.board.specs.Boards.{rows, at-most-six}
-use Rattle.alloc_endpoint.specs.declared.EndpointData.{EndpointData}
-use Rattle.alloc_endpoint.specs.declared.EndpointAllocError.{EndpointAllocError}
-use Rattle.alloc_endpoint.specs.declared.EndpointAllocError.the-variants.{EndpointOverflow, InvalidEndpoint, EpDirNotSupported, EpUsed, MaxPacketSizeBiggerThanEpFifoSize}
-use Rattle.alloc_endpoint.specs.declared.Wanted.{Wanted}
-use Rattle.alloc_endpoint.specs.declared.Wanted.the-variants.{Any, Number}
-use Rattle.alloc_endpoint.specs.declared.Answer.{Answer}
-use Rattle.alloc_endpoint.specs.declared.Answer.the-variants.{Done, Refused}
-use Rattle.alloc_endpoint.specs.Endpoints.{Ask, blank}
-use Rattle.alloc_endpoint.specs.Allocate.{beyond, overSize, lacks, taken, pick, checked, checkAt, passesAt, firstFrom, numbered, answerTo, allocate}
-use Rattle.alloc_endpoint.specs.Numbers.{errorNumber, answerNumber}
+use Rattle.endpoints.specs.declared.EndpointData.{EndpointData}
+use Rattle.endpoints.specs.declared.EndpointAllocError.{EndpointAllocError}
+use Rattle.endpoints.specs.declared.EndpointAllocError.the-variants.{EndpointOverflow, InvalidEndpoint, EpDirNotSupported, EpUsed, MaxPacketSizeBiggerThanEpFifoSize}
+use Rattle.endpoints.specs.declared.Wanted.{Wanted}
+use Rattle.endpoints.specs.declared.Wanted.the-variants.{Any, Number}
+use Rattle.endpoints.specs.declared.Answer.{Answer}
+use Rattle.endpoints.specs.declared.Answer.the-variants.{Done, Refused}
+use Rattle.endpoints.specs.Endpoints.{Ask, blank}
+use Rattle.alloc_endpoint.specs.Allocate.{beyond, checkAt, passesAt, firstFrom, numbered, answerTo, allocate}
+use Rattle.endpoints.specs.Allocate.{overSize, lacks, taken, pick, checked}
+use Rattle.endpoints.specs.Numbers.{errorNumber, answerNumber}
 use Rattle.alloc_endpoint.specs.Replies.{Given}
-
-clash : false ≡ true → ⊥
-clash h = let z : _≡_ {A = ℕ} 0 1 = cc in omega arith
+use Rattle.endpoints.proofs.Answers.{clash, tested, number-tells}
 
 -- none of the numbers from i up to e passes the test f
 abbrev pub None : (ℕ → Bool) → ℕ → ℕ → Type 0
@@ -66,29 +65,6 @@ module _ (f : ℕ → Bool) (i : ℕ) where
   step : (b : Bool) → f i ≡ b → (e : ℕ) → i < e → (a : Answer) → Search f (suc i) e a → Search f i e (cond b (Done i) a)
   step true p e h a s = found i (record { from = omega arith; below = h; passing = p; lower = λ m c d. absurd (omega arith) })
   step false p e h a s = later p e a s
-
--- the wanted number is not 0, and what is tested of it holds
-tested : (z p a : Bool) → (not z && (not p && a)) ≡ true → (z ≡ false) × (a ≡ true)
-tested true p a h = (sym h, absurd (clash h))
-tested false true a h = (refl, absurd (clash h))
-tested false false a h = (refl, h)
-
--- an answer with the number of an error is that refusal
-errors : List EndpointAllocError
-errors = EndpointOverflow ∷ EndpointOverflow ∷ InvalidEndpoint ∷ EpDirNotSupported ∷ EpUsed ∷ MaxPacketSizeBiggerThanEpFifoSize ∷ []
-
-numbered-error : (x : EndpointAllocError) → (0 < errorNumber x) × (getD errors (errorNumber x) EndpointOverflow ≡ x)
-unfolding errors
-numbered-error EndpointOverflow = (omega arith, refl)
-numbered-error InvalidEndpoint = (omega arith, refl)
-numbered-error EpDirNotSupported = (omega arith, refl)
-numbered-error EpUsed = (omega arith, refl)
-numbered-error MaxPacketSizeBiggerThanEpFifoSize = (omega arith, refl)
-
-pub number-tells : (a : Answer) (x : EndpointAllocError) → answerNumber a ≡ errorNumber x → a ≡ Refused x
-number-tells (Done n) x e = absurd (omega (arith, numbered-error x .0))
-number-tells (Refused y) x e =
-    ap Refused (sym (numbered-error y .1) ∙ ap (λ (n : ℕ). getD errors n EndpointOverflow) e ∙ numbered-error x .1)
 
 module _ (t : List Row) (es : List EndpointData) (q : Ask) where
   search-from : (k i e : ℕ) → k ≡ e - i → Search (passesAt t es q) i e (firstFrom t es q i k)

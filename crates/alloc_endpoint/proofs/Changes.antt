@@ -1,40 +1,22 @@
 -- What an allocation changes: of the endpoint that is given its type and the asked direction's size and mark, and nothing else.
 -- Assumes nothing.
 use mathlib.Core.Path.{_≡_, refl, ap, _∙_}
-use mathlib.Core.Bool.{true}
 use mathlib.Core.List.{List}
 use Prim.Native.Nat.{ℕ, _≤_, _<_}
 use native.Mathlib.Omega.{arith}
 use lib.ListN.{length, getD, length-set}
 use lib.Seq.{getD-set-same, getD-set-other}
 use Rattle.board.specs.declared.Row.{Row}
-use Rattle.board.specs.declared.Direction.{Direction}
-use Rattle.board.specs.declared.Direction.the-variants.{Out, In}
-use Rattle.alloc_endpoint.specs.declared.EndpointData.{EndpointData}
-use Rattle.alloc_endpoint.specs.declared.EndpointAllocError.{EndpointAllocError}
-use Rattle.alloc_endpoint.specs.declared.Wanted.{Wanted}
-use Rattle.alloc_endpoint.specs.declared.Answer.{Answer}
-use Rattle.alloc_endpoint.specs.declared.Answer.the-variants.{Done, Refused}
-use Rattle.alloc_endpoint.specs.Endpoints.{Ask, blank, kindOf, sizeIn, usedIn, granted}
-use Rattle.alloc_endpoint.specs.Allocate.{answerTo, given, after, allocate}
+use Rattle.endpoints.specs.declared.EndpointData.{EndpointData}
+use Rattle.endpoints.specs.declared.EndpointAllocError.{EndpointAllocError}
+use Rattle.endpoints.specs.declared.Wanted.{Wanted}
+use Rattle.endpoints.specs.declared.Answer.{Answer}
+use Rattle.endpoints.specs.declared.Answer.the-variants.{Done, Refused}
+use Rattle.endpoints.specs.Endpoints.{Ask, blank, granted}
+use Rattle.alloc_endpoint.specs.Allocate.{answerTo, after, allocate}
+use Rattle.endpoints.specs.Allocate.{given}
 use Rattle.alloc_endpoint.proofs.Answers.{in-table}
-
-abbrev pub opposite : Direction → Direction
-opposite Out = In
-opposite In = Out
-
--- document 01: "Success changes only that record's type and the asked direction's size and mark."
-pub record Granted (e next : EndpointData) (q : Ask) : Type 0 where
-  pub kind : kindOf next ≡ q .kind
-  pub size : sizeIn next (q .way) ≡ q .size
-  pub mark : usedIn next (q .way) ≡ true
-  pub other-size : sizeIn next (opposite (q .way)) ≡ sizeIn e (opposite (q .way))
-  pub other-mark : usedIn next (opposite (q .way)) ≡ usedIn e (opposite (q .way))
-
-by-way : (e : EndpointData) (q : Ask) (d : Direction) → q .way ≡ d → Granted e (granted e q) q
-unfolding granted
-by-way e q Out w = record { kind = rw w; size = rw w; mark = rw w; other-size = rw w; other-mark = rw w }
-by-way e q In w = record { kind = rw w; size = rw w; mark = rw w; other-size = rw w; other-mark = rw w }
+use Rattle.endpoints.proofs.Changes.{Granted, by-way}
 
 module _ (t : List Row) (es : List EndpointData) (q : Ask) (w : Wanted) where
   -- document 01: "A refusal returns its number and changes nothing"

@@ -1,46 +1,25 @@
--- Each answer of the code from the tests that led there: the check of an endpoint, the search, a wanted number, the outcome; over any table.
+-- Each answer of the code from the tests that led there: the search, a wanted number, the outcome; over any table.
 -- Assumes nothing.
-use mathlib.Core.Path.{_≡_, sym, _∙_}
-use mathlib.Core.Bool.{Bool, true, false, not, cond}
+use mathlib.Core.Path.{_≡_}
+use mathlib.Core.Bool.{Bool, true, false, cond}
 use mathlib.Core.List.{List}
 use Prim.Native.Nat.{ℕ, suc, _+_, _-_, _≤_, _<_}
 use native.Mathlib.Omega.{arith}
 use lib.ListN.{length}
-use borrow.Author.Tests.{lt-ltb, le-ltb, le-leb, lt-leb, eq-eqb, ne-eqb}
+use borrow.Author.Tests.{le-leb, lt-leb, eq-eqb, ne-eqb}
 use Rattle.board.specs.declared.Row.{Row}
-use Rattle.board.specs.declared.Direction.{Direction}
-use Rattle.board.specs.Table.{hasRow}
-use Rattle.alloc_endpoint.specs.declared.EndpointType.{EndpointType}
-use Rattle.alloc_endpoint.specs.declared.EndpointData.{EndpointData}
-use Rattle.alloc_endpoint.specs.declared.EndpointAllocError.{EndpointAllocError}
-use Rattle.alloc_endpoint.specs.declared.Wanted.{Wanted}
-use Rattle.alloc_endpoint.specs.declared.Wanted.the-variants.{Number}
-use Rattle.alloc_endpoint.specs.declared.EndpointAllocError.the-variants.{EndpointOverflow, InvalidEndpoint, EpDirNotSupported, EpUsed, MaxPacketSizeBiggerThanEpFifoSize}
-use Rattle.alloc_endpoint.specs.declared.Checked.{Checked}
-use Rattle.alloc_endpoint.specs.declared.Checked.the-variants.{Passes, Fails}
-use Rattle.alloc_endpoint.specs.declared.Answer.{Answer}
-use Rattle.alloc_endpoint.specs.declared.Answer.the-variants.{Done, Refused}
-use Rattle.alloc_endpoint.specs.Endpoints.{Ask, ask}
-use Rattle.alloc_endpoint.specs.Allocate.{taken, checked, passes, checkAt, firstFrom, answerTo, given, allocate}
-
--- `check_endpoint`: s is the row that the board gave, h and u what the tests of direction and use said
-module _ {r s : Row} (e : EndpointData) (k : EndpointType) (d : Direction) (n : ℕ) (at : s ≡ r) where
-  pub too-big : s .size < n → Fails MaxPacketSizeBiggerThanEpFifoSize ≡ checked r e (ask k d n)
-  unfolding checked
-  too-big big = rw (← at, lt-ltb (s .size) n big)
-
-  module _ (fits : n ≤ s .size) {h : Bool} (has : h ≡ hasRow s d) where
-    pub lacking : not h ≡ true → Fails EpDirNotSupported ≡ checked r e (ask k d n)
-    unfolding checked
-    lacking p = rw (← at, le-ltb (s .size) n fits, ← has, p)
-
-    pub in-use : not h ≡ false → {u : Bool} → u ≡ taken e k d → u ≡ true → Fails EpUsed ≡ checked r e (ask k d n)
-    unfolding checked
-    in-use p is busy = rw (← at, le-ltb (s .size) n fits, ← has, p, sym is ∙ busy)
-
-    pub passing : not h ≡ false → {u : Bool} → u ≡ taken e k d → u ≡ false → Passes ≡ checked r e (ask k d n)
-    unfolding checked
-    passing p is free = rw (← at, le-ltb (s .size) n fits, ← has, p, sym is ∙ free)
+use Rattle.endpoints.specs.declared.EndpointData.{EndpointData}
+use Rattle.endpoints.specs.declared.EndpointAllocError.{EndpointAllocError}
+use Rattle.endpoints.specs.declared.Wanted.{Wanted}
+use Rattle.endpoints.specs.declared.Wanted.the-variants.{Number}
+use Rattle.endpoints.specs.declared.EndpointAllocError.the-variants.{EndpointOverflow, InvalidEndpoint}
+use Rattle.endpoints.specs.declared.Checked.{Checked}
+use Rattle.endpoints.specs.declared.Checked.the-variants.{Passes, Fails}
+use Rattle.endpoints.specs.declared.Answer.{Answer}
+use Rattle.endpoints.specs.declared.Answer.the-variants.{Done, Refused}
+use Rattle.endpoints.specs.Endpoints.{Ask}
+use Rattle.endpoints.specs.Allocate.{passes, given}
+use Rattle.alloc_endpoint.specs.Allocate.{checkAt, firstFrom, answerTo, allocate}
 
 -- the search at the number i of l, where a is its answer from there on: it stops at i, goes on past it, or is at the end
 module _ (t : List Row) (es : List EndpointData) (q : Ask) (i l : ℕ) {a : Answer} (rest : firstFrom t es q i (l - i) ≡ a) where

@@ -2,4 +2,3 @@ pub mod Laws
 pub mod Answers
 pub mod Changes
 pub mod Once
-pub mod Cases

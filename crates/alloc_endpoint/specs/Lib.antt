@@ -1,5 +1,2 @@
-pub mod Endpoints
 pub mod Allocate
-pub mod Numbers
 pub mod Replies
-pub mod Cases

@@ -8,13 +8,14 @@ use lib.Dec.{eqb}
 use lib.ListN.{length, getD}
 use Rattle.board.specs.declared.Row.{Row}
 use Rattle.board.specs.Table.{rowAt}
-use Rattle.alloc_endpoint.specs.declared.EndpointData.{EndpointData}
-use Rattle.alloc_endpoint.specs.declared.EndpointAllocError.{EndpointAllocError}
-use Rattle.alloc_endpoint.specs.declared.EndpointAllocError.the-variants.{EndpointOverflow, InvalidEndpoint, EpDirNotSupported, EpUsed, MaxPacketSizeBiggerThanEpFifoSize}
-use Rattle.alloc_endpoint.specs.declared.Wanted.{Wanted}
-use Rattle.alloc_endpoint.specs.declared.Wanted.the-variants.{Any, Number}
-use Rattle.alloc_endpoint.specs.Endpoints.{Ask, blank}
-use Rattle.alloc_endpoint.specs.Allocate.{beyond, overSize, lacks, taken, passesAt}
+use Rattle.endpoints.specs.declared.EndpointData.{EndpointData}
+use Rattle.endpoints.specs.declared.EndpointAllocError.{EndpointAllocError}
+use Rattle.endpoints.specs.declared.EndpointAllocError.the-variants.{EndpointOverflow, InvalidEndpoint, EpDirNotSupported, EpUsed, MaxPacketSizeBiggerThanEpFifoSize}
+use Rattle.endpoints.specs.declared.Wanted.{Wanted}
+use Rattle.endpoints.specs.declared.Wanted.the-variants.{Any, Number}
+use Rattle.endpoints.specs.Endpoints.{Ask, blank}
+use Rattle.alloc_endpoint.specs.Allocate.{beyond, passesAt}
+use Rattle.endpoints.specs.Allocate.{overSize, lacks, taken}
 
 -- "wanted 1 to 5", and the test f holds of that number
 abbrev pub wantedAnd : List Row → (ℕ → Bool) → Wanted → Bool

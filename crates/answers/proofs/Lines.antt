@@ -7,26 +7,28 @@ use mathlib.Core.Path.{_≡_, ap, _∙_}
 use mathlib.Core.Bool.{Bool, cond}
 use mathlib.Core.List.{List, [], _∷_}
 use lib.ListN.{length, take, drop, length-take, length-drop}
-use Rattle.report.specs.Text.{Wrote, line}
-use Rattle.report.proofs.Appended.{said}
-use Rattle.alloc_endpoint.specs.declared.EndpointAllocError.{EndpointAllocError}
-use Rattle.alloc_endpoint.specs.Numbers.{errorNumber}
+use Rattle.text.specs.Text.{Wrote}
+use Rattle.report.specs.Text.{line}
+use Rattle.text.proofs.Appended.{said}
+use Rattle.endpoints.specs.declared.EndpointAllocError.{EndpointAllocError}
+use Rattle.endpoints.specs.Numbers.{errorNumber}
 use Rattle.record.specs.declared.Refusal.{Refusal}
 use Rattle.record.specs.Record.{refusalNumber}
-use Rattle.usb_device_impl.specs.declared.Allocation.{Allocation}
-use Rattle.usb_device_impl.specs.declared.Allocation.the-variants as allocation
-use Rattle.usb_device_impl.specs.declared.Told.{Told}
-use Rattle.usb_device_impl.specs.declared.Told.the-variants as told
-use Rattle.usb_device_impl.specs.Calls.{allocationNumber, allocationValues, toldNumber, toldValues}
+use Rattle.usb_device_alloc.specs.declared.Allocation.{Allocation}
+use Rattle.usb_device_alloc.specs.declared.Allocation.the-variants as allocation
+use Rattle.usb_device_stall.specs.declared.Told.{Told}
+use Rattle.usb_device_stall.specs.declared.Told.the-variants as told
+use Rattle.usb_device_alloc.specs.Calls.{allocationNumber, allocationValues}
+use Rattle.usb_device_stall.specs.Calls.{toldNumber, toldValues}
 use Rattle.usb_device_interrupt.specs.declared.Interrupted.{Interrupted}
 use Rattle.usb_device_interrupt.specs.declared.Interrupted.the-variants as interrupted
 use Rattle.usb_device_interrupt.specs.Interrupt.{interruptNumber}
-use Rattle.usb_device_write.specs.declared.Wrote as write
-use Rattle.usb_device_write.specs.declared.Wrote.the-variants as wrote
-use Rattle.usb_device_write.specs.Write.{wroteNumber, wroteValues}
-use Rattle.usb_device_read.specs.declared.Got.{Got}
-use Rattle.usb_device_read.specs.declared.Got.the-variants as got
-use Rattle.usb_device_read.specs.Read.{gotNumber, gotValues}
+use Rattle.write_zero.specs.declared.Wrote as write
+use Rattle.write_zero.specs.declared.Wrote.the-variants as wrote
+use Rattle.write_zero.specs.Write.{wroteNumber, wroteValues}
+use Rattle.read_zero.specs.declared.Got.{Got}
+use Rattle.read_zero.specs.declared.Got.the-variants as got
+use Rattle.read_zero.specs.Read.{gotNumber, gotValues}
 use Rattle.usb_device_poll.specs.declared.Masks.{Masks}
 use Rattle.usb_device_poll.specs.declared.PollResult.{PollResult}
 use Rattle.usb_device_poll.specs.declared.PollResult.the-variants as result

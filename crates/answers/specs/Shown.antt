@@ -4,12 +4,13 @@ use Prim.Native.Nat.{ℕ, _<_, _≤_, _^_}
 use mathlib.Core.Path.{_≡_}
 use mathlib.Core.List.{List, _∷_}
 use lib.ListN.{length}
-use Rattle.report.specs.Text.{Wrote, line}
+use Rattle.text.specs.Text.{Wrote}
+use Rattle.report.specs.Text.{line}
 use Rattle.record.specs.declared.Record.{Record}
-use Rattle.usb_device_write.specs.declared.Wrote as write
-use Rattle.usb_device_write.specs.declared.Wrote.the-variants as wrote
-use Rattle.usb_device_read.specs.declared.Got.{Got}
-use Rattle.usb_device_read.specs.declared.Got.the-variants as got
+use Rattle.write_zero.specs.declared.Wrote as write
+use Rattle.write_zero.specs.declared.Wrote.the-variants as wrote
+use Rattle.read_zero.specs.declared.Got.{Got}
+use Rattle.read_zero.specs.declared.Got.the-variants as got
 use Rattle.answers.specs.declared.Acted.{Acted}
 
 -- "per entry its code, reply and values": r bytes at the front of the buffer, and all else as it was

@@ -1,39 +1,39 @@
 // The line of an entry that was carried out: its code, and the reply and values of its answer (document 01, 'Event trace').
 // A refused entry shows code and reply only. Each function gives the length of its line, which stands at the front of the lent buffer.
-use alloc_endpoint::EndpointAllocError;
+use endpoints::EndpointAllocError;
 use host::Collected;
 use host::Happened;
 use host::Host;
 use host::Taken;
+use read_zero::Fetched;
+use read_zero::Got;
 use record::Record;
 use record::Refusal;
-use usb_device_impl::AllocEp;
-use usb_device_impl::Allocation;
+use usb_device_alloc::AllocEp;
+use usb_device_alloc::Allocation;
 use usb_device_impl::Called;
-use usb_device_impl::IsStalled;
 use usb_device_impl::Reply;
-use usb_device_impl::Told;
 use usb_device_interrupt::Interrupted;
 use usb_device_interrupt::OnInterrupt;
 use usb_device_poll::Masks;
 use usb_device_poll::PollAnswer;
 use usb_device_poll::PollResult;
 use usb_device_poll::Polled;
-use usb_device_read::Fetched;
-use usb_device_read::Got;
-use usb_device_write::Written;
-use usb_device_write::Wrote;
+use usb_device_stall::IsStalled;
+use usb_device_stall::Told;
+use write_zero::Written;
+use write_zero::Wrote;
 ghost use mathlib.Core.Path.{_≡_};
 ghost use mathlib.Core.Bool.{cond};
 ghost use mathlib.Core.List.{[], _∷_};
 ghost use Prim.Native.Nat.{_+_, _*_, _≤_, _<_, _^_, min};
 ghost use lib.ListN.{length, take, drop};
-ghost use Rattle.report.specs.Text.{line as textLine};
 ghost use Rattle.record.specs.Record.{refusalNumber};
-ghost use Rattle.alloc_endpoint.specs.Numbers.{errorNumber};
-ghost use Rattle.usb_device_impl.specs.Calls.{replyNumber, allocationNumber, allocationValues, toldNumber, toldValues};
-ghost use Rattle.usb_device_write.specs.Write.{wroteNumber, wroteValues};
-ghost use Rattle.usb_device_read.specs.Read.{gotNumber, gotValues};
+ghost use Rattle.usb_device_impl.specs.Calls.{replyNumber};
+ghost use Rattle.usb_device_alloc.specs.Calls.{allocationNumber, allocationValues};
+ghost use Rattle.usb_device_stall.specs.Calls.{toldNumber, toldValues};
+ghost use Rattle.write_zero.specs.Write.{wroteNumber, wroteValues};
+ghost use Rattle.read_zero.specs.Read.{gotNumber, gotValues};
 ghost use Rattle.usb_device_poll.specs.Poll.{pollNumber, pollValues, resultValues};
 ghost use Rattle.usb_device_interrupt.specs.Interrupt.{interruptNumber};
 ghost use Rattle.host.specs.Host.{happenedNumber, takenNumber, takenValues, InBuffer};
@@ -107,7 +107,7 @@ fn show_allocation(line: &mut [u8], code: u8, a: Allocation) -> usize
 {
     match a {
         Allocation::Done(n) => report::value_line(line, code, 0, wide(n)),
-        Allocation::NotGiven(x) => report::reply_line(line, code, alloc_endpoint::error_number(x)),
+        Allocation::NotGiven(x) => report::reply_line(line, code, endpoints::error_number(x)),
         Allocation::Refused(x) => show_refusal(line, code, x),
     }
 }

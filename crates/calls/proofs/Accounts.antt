@@ -9,11 +9,12 @@ use lib.Dec.{leb}
 use lib.ListN.{length}
 use Rattle.board.specs.declared.Board.{Board}
 use Rattle.board.specs.Boards.{rows}
-use Rattle.regs.specs.declared.control.Csr0lSet.{Csr0lSet}
-use Rattle.regs.specs.declared.control.TxcsrlSet.{TxcsrlSet}
-use Rattle.regs.specs.declared.control.RxcsrlSet.{RxcsrlSet}
+use Rattle.csr.specs.declared.Csr0lSet.{Csr0lSet}
+use Rattle.csr.specs.declared.TxcsrlSet.{TxcsrlSet}
+use Rattle.csr.specs.declared.RxcsrlSet.{RxcsrlSet}
 use Rattle.stores.specs.Stores.{Log, log, modifyCsr0l, modifyTxcsrl, modifyRxcsrl}
-use Rattle.regs.specs.Control.{csr0lRead, csr0lSet, txcsrlRead, txcsrlSet, rxcsrlRead, rxcsrlSet}
+use Rattle.regs.specs.Control.{csr0lRead, txcsrlRead, rxcsrlRead}
+use Rattle.csr.specs.Control.{csr0lSet, txcsrlSet, rxcsrlSet}
 use Rattle.stores.specs.Promise.{Store, csr0l, txcsrl, rxcsrl}
 use Rattle.stores.proofs.Promises.{modify-csr0l, modify-txcsrl, modify-rxcsrl}
 use Rattle.stores.proofs.Halts.{tx-modified, rx-modified}

@@ -10,21 +10,23 @@ use lib.Dec.{eqb, ltb}
 use lib.ListN.{length, drop}
 use Rattle.board.specs.declared.Board.{Board}
 use Rattle.board.specs.Boards.{rows, at-least-one}
-use Rattle.stores.specs.Stores.{Log, log, listed, INDEX, writeIndex}
+use Rattle.stores.specs.Stores.{Log, log, writeIndex}
+use Rattle.store_list.specs.Stores.{listed, INDEX}
 use Rattle.stores.specs.Promise.{index}
-use Rattle.stores.proofs.Promises.{index-selects, rest, listed-first}
+use Rattle.stores.proofs.Promises.{index-selects, rest}
+use Rattle.store_list.proofs.Promises.{listed-first}
 use Rattle.stores.proofs.Others.{others}
-use Rattle.alloc_endpoint.specs.declared.EndpointAllocError.{EndpointAllocError}
-use Rattle.alloc_endpoint.specs.declared.EndpointAllocError.the-variants.{EndpointOverflow, InvalidEndpoint, EpDirNotSupported, EpUsed, MaxPacketSizeBiggerThanEpFifoSize}
+use Rattle.endpoints.specs.declared.EndpointAllocError.{EndpointAllocError}
+use Rattle.endpoints.specs.declared.EndpointAllocError.the-variants.{EndpointOverflow, InvalidEndpoint, EpDirNotSupported, EpUsed, MaxPacketSizeBiggerThanEpFifoSize}
 use Rattle.alloc_endpoint.specs.declared.Allocated.{Allocated}
-use Rattle.alloc_endpoint.specs.declared.EndpointData.{EndpointData}
-use Rattle.alloc_endpoint.specs.declared.Answer.{Answer}
-use Rattle.alloc_endpoint.specs.declared.Answer.the-variants as answer
-use Rattle.alloc_endpoint.specs.declared.Wanted.{Wanted}
-use Rattle.alloc_endpoint.specs.declared.Wanted.the-variants.{Any, Number}
-use Rattle.alloc_endpoint.specs.Endpoints.{Ask}
+use Rattle.endpoints.specs.declared.EndpointData.{EndpointData}
+use Rattle.endpoints.specs.declared.Answer.{Answer}
+use Rattle.endpoints.specs.declared.Answer.the-variants as answer
+use Rattle.endpoints.specs.declared.Wanted.{Wanted}
+use Rattle.endpoints.specs.declared.Wanted.the-variants.{Any, Number}
+use Rattle.endpoints.specs.Endpoints.{Ask}
 use Rattle.alloc_endpoint.specs.Allocate.{allocate}
-use Rattle.alloc_endpoint.specs.Numbers.{errorNumber, answerNumber}
+use Rattle.endpoints.specs.Numbers.{errorNumber, answerNumber}
 use Rattle.alloc_endpoint.specs.Replies as allocation
 use Rattle.alloc_endpoint.proofs.Answers as alloc
 use Rattle.alloc_endpoint.proofs.Changes.{refused-keeps}
@@ -35,14 +37,22 @@ use Rattle.record.proofs.Rows.{Row, Given}
 use Rattle.record.specs.Record.{recordSound, refusalNumber, entryBy, withRegs, withEndpoints}
 use Rattle.usb_device_impl.specs.declared.Reply.{Reply}
 use Rattle.usb_device_impl.specs.declared.Reply.the-variants as reply
-use Rattle.usb_device_impl.specs.declared.Told.{Told}
-use Rattle.usb_device_impl.specs.declared.Told.the-variants as tells
+use Rattle.usb_device_stall.specs.declared.Told.{Told}
+use Rattle.usb_device_stall.specs.declared.Told.the-variants as tells
 use Rattle.usb_device_impl.specs.Calls as impl
+use Rattle.usb_device_alloc.specs.Calls as impl-alloc
+use Rattle.usb_device_stall.specs.Calls as impl-stall
 use Rattle.usb_device_impl.proofs.Replies as simple
-use Rattle.usb_device_write.specs.Write as write-call
+use Rattle.usb_device_reset.proofs.Replies as simple-reset
+use Rattle.usb_device_stall.proofs.Replies as simple-stall
+use Rattle.write_tests.specs.Write as write-call
+use Rattle.write_zero.specs.Write as write-call-zero
+use Rattle.usb_device_write.specs.Write as write-call-write
 use Rattle.usb_device_write.specs.Replies as write-rows
 use Rattle.usb_device_write.proofs.Answers as writes
-use Rattle.usb_device_read.specs.Read as read-call
+use Rattle.read_tests.specs.Read as read-call
+use Rattle.read_zero.specs.Read as read-call-zero
+use Rattle.usb_device_read.specs.Read as read-call-read
 use Rattle.usb_device_read.specs.Replies as read-rows
 use Rattle.usb_device_read.proofs.Answers as reads
 use Rattle.usb_device_interrupt.specs.Interrupt.{interruptBy, interruptCall}
@@ -56,7 +66,7 @@ use Rattle.host.specs.declared.Taken.the-variants as takes
 use Rattle.host.specs.Host as host
 use Rattle.host.proofs.Replies as events
 use Rattle.calls.specs.Calls.{Op, allocEp, busInit, enable, reset, setDeviceAddress, write, read, setStalled, isStalled, poll, onInterrupt, forceReset, arrival, collection, busReset, suspend, resume, setupEnd, underrun, overrun, Outcome, called, told, allocated, polled, interrupted, happened, arrived, collected, outcome}
-use Rattle.calls.specs.Demand.{replies, allocReplies, among, noneLent, listLent, lent, unchanged, selected, Blocking, writing, reading, Answers}
+use Rattle.calls.specs.Demand.{replies, allocReplies, among, noneLent, listLent, lent, unchanged, selected, Blocking, writing, reading}
 use Rattle.laws.proofs.Tests.{clash}
 
 -- x is all that an operation leaves
@@ -100,11 +110,11 @@ module _ (k : Record) (o : Op) (rs : List Row) (is : numbers rs ≡ replies o) (
       go reply.Done e = served (ap impl.replyNumber e)
       go (reply.Refused y) e = rejected y (t .refusals y .0 e) (ap called (t .unchanged y e) ∙ ap (unchanged (refusalNumber y) k) (sym p))
 
-  told-ends : (l : List ℕ) {b : Bool} {a : impl.ToldOutcome} → lent o ≡ listLent l → simple.Tells a k l rs b → Ends k o (told a)
+  told-ends : (l : List ℕ) {b : Bool} {a : impl-stall.ToldOutcome} → lent o ≡ listLent l → simple-stall.Tells a k l rs b → Ends k o (told a)
   told-ends l {b} {a} p t = go (a .call .answer) refl
     where
       go : (y : Told) → a .call .answer ≡ y → Ends k o (told a)
-      go (tells.Done c) e = served (ap impl.toldNumber e)
+      go (tells.Done c) e = served (ap impl-stall.toldNumber e)
       go (tells.Refused y) e = rejected y (t .refusals y .0 e) (ap told (t .unchanged y e) ∙ ap (unchanged (refusalNumber y) k) (sym p))
 
   happened-ends : {a : Host} → lent o ≡ noneLent → events.Answers a k rs → Ends k o (happened a)
@@ -176,18 +186,18 @@ module _ (k : Record) (q : Ask) (w : Wanted) where
   abbrev given : Allocated
   given = allocate (rows (k .regs .board)) (k .endpoints) q w
 
-  handed-ends : (a : Answer) → given .answer ≡ a → Ends k (allocEp q w) (allocated (impl.handed k given))
-  handed-ends (answer.Done n) e = done (alloc-among w .0) (ap (λ (a : Answer). impl.allocationNumber (impl.allocated a)) e)
+  handed-ends : (a : Answer) → given .answer ≡ a → Ends k (allocEp q w) (allocated (impl-alloc.handed k given))
+  handed-ends (answer.Done n) e = done (alloc-among w .0) (ap (λ (a : Answer). impl-alloc.allocationNumber (impl-alloc.allocated a)) e)
   handed-ends (answer.Refused x) e =
       refused (errorNumber x) (error-other x)
       (error-among (k .regs .board) (k .endpoints) q w x (alloc.exactly (rows (k .regs .board)) (k .endpoints) q w x .0 (ap answerNumber e)))
-      (λ i. allocated (record { answer = impl.allocated (e i); «record» = withEndpoints k (refused-keeps (rows (k .regs .board)) (k .endpoints) q w x e i) }))
+      (λ i. allocated (record { answer = impl-alloc.allocated (e i); «record» = withEndpoints k (refused-keeps (rows (k .regs .board)) (k .endpoints) q w x e i) }))
 
   alloc-ends : Ends k (allocEp q w) (outcome k (allocEp q w))
-  unfolding impl.allocEpCall impl.allocEp
+  unfolding impl-alloc.allocEpCall impl-alloc.allocEp
   alloc-ends = go (recordSound k)
     where
-      go : (p : Bool) → Ends k (allocEp q w) (allocated (impl.unlessAllocated (entryBy false p false) k (impl.allocEp k q w)))
+      go : (p : Bool) → Ends k (allocEp q w) (allocated (impl-alloc.unlessAllocated (entryBy false p false) k (impl-alloc.allocEp k q w)))
       go false = refused 16 refl (alloc-among w .1) refl
       go true = handed-ends (given .answer) refl
 
@@ -197,7 +207,7 @@ module _ (k : Record) where
   Ended o = Ends k o (outcome k o)
 
   write-ends : (e : ℕ) (b f l : List ℕ) {m : ℕ} → write-rows.Given k e (length b) (length f) (length l) m → Ended (write e b f l)
-  unfolding write-call.writeCall write-call.tests write-call.ownTestsAt write-call.blocked
+  unfolding write-call-write.writeCall write-call.tests write-call.ownTestsAt write-call-zero.blocked
   write-ends e b f l (write-rows.done a s t u) = done refl (writes.exactly k e b f l 0 .1 (write-rows.done a s t u))
   write-ends e b f l (write-rows.blocks a s) =
       rw (a .lent, a .passes, a .there, s) (blocked e (writing e b f l) refl (blocks k e l f [] (lent-enough k (length f) (length l) (a .lent) .1)))
@@ -208,7 +218,7 @@ module _ (k : Record) where
   write-ends e b f l (write-rows.unsound p q) = rw (p, q) (refused 16 refl refl refl)
 
   read-ends : (e : ℕ) (f l b : List ℕ) {m : ℕ} → read-rows.Given k e (length b) (length f) (length l) m → Ended (read e f l b)
-  unfolding read-call.readCall read-call.tests read-call.ownTestsAt read-call.blocked
+  unfolding read-call-read.readCall read-call.tests read-call.ownTestsAt read-call-zero.blocked
   read-ends e f l b (read-rows.done a s t u) = done refl (reads.exactly k e f l b 0 .1 (read-rows.done a s t u))
   read-ends e f l b (read-rows.blocks a s) =
       rw (a .lent, a .passes, a .there, s) (blocked e (reading e f l b) refl (blocks k e l [] b (lent-enough k (length f) (length l) (a .lent) .1)))
@@ -259,10 +269,10 @@ module _ (k : Record) where
   pub ends : (o : Op) → Ended o
   ends (busInit l) = called-ends k (busInit l) (simple.listRows k l) refl refl l refl (simple.bus-init k l)
   ends (enable l) = called-ends k (enable l) (simple.listRows k l) refl refl l refl (simple.enable k l)
-  ends (reset l) = called-ends k (reset l) (simple.listRows k l) refl refl l refl (simple.reset k l)
+  ends (reset l) = called-ends k (reset l) (simple.listRows k l) refl refl l refl (simple-reset.reset k l)
   ends (setDeviceAddress a l) = called-ends k (setDeviceAddress a l) (simple.addressRows k a l) refl refl l refl (simple.set-device-address k l a)
-  ends (setStalled e d s l) = called-ends k (setStalled e d s l) (simple.endpointRows k e l) refl refl l refl (simple.set-stalled k l e d s)
-  ends (isStalled e d l) = told-ends k (isStalled e d l) (simple.endpointRows k e l) refl refl l refl (simple.is-stalled k e d l)
+  ends (setStalled e d s l) = called-ends k (setStalled e d s l) (simple.endpointRows k e l) refl refl l refl (simple-stall.set-stalled k l e d s)
+  ends (isStalled e d l) = told-ends k (isStalled e d l) (simple.endpointRows k e l) refl refl l refl (simple-stall.is-stalled k e d l)
   ends busReset = happened-ends k busReset (events.plainRows k) refl refl refl (events.bus-reset k)
   ends suspend = happened-ends k suspend (events.plainRows k) refl refl refl (events.suspend k)
   ends resume = happened-ends k resume (events.plainRows k) refl refl refl (events.resume k)

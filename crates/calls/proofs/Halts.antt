@@ -3,7 +3,7 @@ use mathlib.Core.Path.{_≡_, refl, ap, _∙_}
 use mathlib.Core.Bool.{true}
 use mathlib.Core.Logic.{_⊎_, inl, inr}
 use Rattle.regs.specs.declared.Regs.{Regs}
-use Rattle.regs.specs.declared.Side.{Side}
+use Rattle.csr.specs.declared.Side.{Side}
 use Rattle.regs.specs.Registers.{Whole, sideAt}
 use Rattle.stores.specs.Promise.{SameHalts}
 use Rattle.events.proofs.Halts as events

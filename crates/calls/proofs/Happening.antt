@@ -15,11 +15,11 @@ use Rattle.board.specs.declared.Direction.{Direction}
 use Rattle.board.specs.declared.Direction.the-variants.{Out, In}
 use Rattle.board.specs.Table.{areaAt}
 use Rattle.board.specs.Boards.{rows, at-most-six, at-least-one}
-use Rattle.regs.specs.declared.Side.{Side}
+use Rattle.csr.specs.declared.Side.{Side}
 use Rattle.regs.specs.declared.Regs.{Regs}
 use Rattle.regs.specs.Registers.{sideAt}
-use Rattle.regs.specs.Control.{dropped}
-use Rattle.regs.specs.Sound.{SideOk}
+use Rattle.csr.specs.Control.{dropped}
+use Rattle.csr.specs.Sound.{SideOk}
 use Rattle.events.specs.Events.{received, lapsed, arrived, intrusbCleared, intrCleared}
 use Rattle.events.specs.Promise.{Event, arrival, collection, reset, suspend, resume, setupend, miss, happens, leaves, at, Kept}
 use Rattle.events.proofs.Promises.{sides, rest, usb-read, usb-rest, word-read, word-rest}
@@ -33,7 +33,7 @@ use Rattle.host.proofs.Laws as laws
 use Rattle.usb_device_interrupt.specs.Interrupt.{cleared, snapshotOf, interrupted}
 use Rattle.usb_device_interrupt.proofs.Flags.{taken-low}
 use Rattle.laws.proofs.Tests.{clash}
-use Rattle.regs.proofs.Tame.{stays-ok, alike, either, one-way, dropped-tame}
+use Rattle.csr.proofs.Tame.{stays-ok, alike, either, one-way, dropped-tame}
 use Rattle.calls.proofs.Steps.{Standing, Holds}
 use Rattle.calls.proofs.Accounts.{Low, there}
 

@@ -14,13 +14,14 @@ use Rattle.laws.specs.Words.{bit, raised, clear, bitsBelow, setBits}
 use Rattle.laws.proofs.Words.{raised-lt}
 use Rattle.board.specs.declared.Board.{Board}
 use Rattle.board.specs.Boards.{rows, at-least-one}
-use Rattle.regs.specs.declared.control.Csr0lSet.the-variants.{ServicedSetupEnd}
-use Rattle.regs.specs.declared.control.TxcsrlSet.the-variants.{NoUnderRun}
-use Rattle.regs.specs.declared.control.RxcsrlSet.the-variants.{NoOverRun}
+use Rattle.csr.specs.declared.Csr0lSet.the-variants.{ServicedSetupEnd}
+use Rattle.csr.specs.declared.TxcsrlSet.the-variants.{NoUnderRun}
+use Rattle.csr.specs.declared.RxcsrlSet.the-variants.{NoOverRun}
 use Rattle.regs.specs.Control.{csr0lRead, txcsrlRead, rxcsrlRead, count0}
 use Rattle.stores.specs.Stores.{Log, log, writeIndex}
 use Rattle.stores.specs.Promise.{index}
-use Rattle.common_impl.specs.Common.{underRunCleared, overRunCleared, repaired, numbers, repairedBelow, checkOverrun}
+use Rattle.overrun.specs.Common.{underRunCleared, overRunCleared, repaired, repairedBelow, checkOverrun}
+use Rattle.laws.specs.Lists.{numbers}
 use Rattle.control_state.specs.declared.ControlState.{ControlState}
 use Rattle.control_state.specs.declared.ControlStateEnum.{ControlStateEnum}
 use Rattle.control_state.specs.declared.ControlStateEnum.the-variants.{Idle, Setup, DataIn, DataOut, Accepted, NodataPhase}
@@ -30,7 +31,8 @@ use Rattle.record.specs.declared.Entry.{Entry}
 use Rattle.record.specs.declared.Entry.the-variants.{Clear, Refused}
 use Rattle.record.specs.Record.{recordSound, entryBy}
 use Rattle.record.proofs.Passing.{record-is-sound}
-use Rattle.usb_device_poll.specs.Round.{Round, round, Walk, walk, withEp0, sentBy, setupTaken, restarted, cutShort, receivedBy, zeroBy, zeroServed, endpointZero, putBack, acceptedBy, acceptStep, readyAt, drained, visit, walked}
+use Rattle.poll_zero.specs.Round.{Round, round, withEp0, sentBy, setupTaken, restarted, cutShort, receivedBy, zeroBy, zeroServed, endpointZero, putBack, acceptedBy, acceptStep}
+use Rattle.poll_walk.specs.Round.{Walk, walk, readyAt, drained, visit, walked}
 use Rattle.usb_device_poll.specs.Poll.{PollOutcome, ended, walkedOn, acceptedOn, roundOut, pollBy, pollLogged, pollServed, pollWhen, pollCall}
 use Rattle.laws.proofs.Tests.{clash}
 use Rattle.calls.proofs.Steps.{Reached, none, then, one, Gentle}

@@ -7,8 +7,8 @@ use lib.Dec.{eqb, ltb}
 use lib.ListN.{length}
 use Rattle.board.specs.declared.Board.{Board}
 use Rattle.board.specs.Boards.{rows}
-use Rattle.regs.specs.declared.control.Csr0lSet.the-variants as csr0l
-use Rattle.regs.specs.declared.control.RxcsrlSet.the-variants as rxcsrl
+use Rattle.csr.specs.declared.Csr0lSet.the-variants as csr0l
+use Rattle.csr.specs.declared.RxcsrlSet.the-variants as rxcsrl
 use Rattle.stores.specs.Stores.{Log, log, writeIndex}
 use Rattle.stores.specs.Promise.{index}
 use Rattle.control_state.specs.declared.ControlState.{ControlState}
@@ -16,7 +16,9 @@ use Rattle.control_state.specs.declared.ControlStateEnum.{ControlStateEnum}
 use Rattle.control_state.specs.declared.ControlStateEnum.the-variants.{Idle, Setup, DataIn, DataOut, Accepted, NodataPhase}
 use Rattle.record.specs.declared.Record.{Record}
 use Rattle.record.specs.Record.{recordSound}
-use Rattle.usb_device_read.specs.Read.{Ran, waiting, ownTestsAt, tests, blocked, copied, ended, wLength, setUp, rxSize, dataOut, zeroBy, readZero, readOther, got, taken, readCall}
+use Rattle.read_zero.specs.Read.{Ran, blocked, ended, wLength, setUp, rxSize, dataOut, zeroBy, readZero}
+use Rattle.read_tests.specs.Read.{waiting, ownTestsAt, tests}
+use Rattle.usb_device_read.specs.Read.{copied, readOther, got, taken, readCall}
 use Rattle.usb_device_read.specs.Replies.{Given, done as granted, blocks, beyond, unreadable, unset, little, unsound}
 use Rattle.usb_device_read.proofs.Answers.{exactly}
 use Rattle.calls.proofs.Steps.{Reached, none, then, one, Gentle}

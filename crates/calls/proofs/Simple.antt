@@ -12,25 +12,29 @@ use Rattle.board.specs.declared.Board.{Board}
 use Rattle.board.specs.declared.Direction.{Direction}
 use Rattle.board.specs.declared.Direction.the-variants.{Out, In}
 use Rattle.board.specs.Boards.{rows}
-use Rattle.regs.specs.declared.control.Csr0lSet.the-variants.{ServicedBoth}
-use Rattle.regs.specs.declared.control.TxcsrlSet.the-variants as tx-set
-use Rattle.regs.specs.declared.control.RxcsrlSet.the-variants as rx-set
+use Rattle.csr.specs.declared.Csr0lSet.the-variants.{ServicedBoth}
+use Rattle.csr.specs.declared.TxcsrlSet.the-variants as tx-set
+use Rattle.csr.specs.declared.RxcsrlSet.the-variants as rx-set
 use Rattle.regs.specs.Registers.{enabledOf}
-use Rattle.regs.specs.Control.{csr0lBits, txcsrlBits, rxcsrlBits}
+use Rattle.csr.specs.Control.{csr0lBits, txcsrlBits, rxcsrlBits}
 use Rattle.control_state.specs.declared.ControlState.{ControlState}
-use Rattle.alloc_endpoint.specs.declared.EndpointData.{EndpointData}
-use Rattle.alloc_endpoint.specs.declared.Wanted.{Wanted}
-use Rattle.alloc_endpoint.specs.Endpoints.{Ask, blank}
+use Rattle.endpoints.specs.declared.EndpointData.{EndpointData}
+use Rattle.endpoints.specs.declared.Wanted.{Wanted}
+use Rattle.endpoints.specs.Endpoints.{Ask, blank}
 use Rattle.stores.specs.Stores.{Log, modifyCsr0l, modifyIntre}
 use Rattle.stores.specs.Promise.{faddr, power, index, csr0l, csr0h, txcsrl, rxcsrl, iso, maxp, intrusbe, intre}
 use Rattle.stores.proofs.Promises.{modify-csr0l, modify-txcsrl, modify-rxcsrl, modify-intre}
-use Rattle.common_impl.specs.Common.{busInit, selected, stallCsr0l, writeCsrl, epTxStall, epRxStall, flushedZero, enabledZero, sized, settled, isoWritten, waits, flush, flushed, enabledOther, enabled, epTxEnable, epRxEnable, isStalled}
+use Rattle.common_impl.specs.Common.{busInit, selected, stallCsr0l, writeCsrl, epTxStall, epRxStall, isStalled}
+use Rattle.enabling.specs.Common.{flushedZero, enabledZero, sized, settled, isoWritten, waits, flush, flushed, enabledOther, enabled, epTxEnable, epRxEnable}
 use Rattle.record.specs.declared.Record.{Record}
 use Rattle.record.specs.declared.Entry.{Entry}
 use Rattle.record.specs.declared.Entry.the-variants.{Clear, Refused}
 use Rattle.record.specs.Record.{recordSound, endpointsOf, entryBy}
 use Rattle.host.proofs.Laws.{never}
-use Rattle.usb_device_impl.specs.Calls.{stored, unless, short, begun, beyond, busInitCall, enableCall, txEnabled, rxEnabled, usedEnabled, enabledBelow, resetStores, idled, resetCall, addressEntry, addressCall, epStall, afterStall, setStalledCall, toldOf, unlessTold, isStalledCall, unlessAllocated, allocEp, allocEpCall}
+use Rattle.usb_device_impl.specs.Calls.{stored, unless, short, begun, beyond, busInitCall, enableCall, idled, addressEntry, addressCall}
+use Rattle.usb_device_reset.specs.Calls.{txEnabled, rxEnabled, usedEnabled, enabledBelow, resetStores, resetCall}
+use Rattle.usb_device_stall.specs.Calls.{epStall, afterStall, setStalledCall, toldOf, unlessTold, isStalledCall}
+use Rattle.usb_device_alloc.specs.Calls.{unlessAllocated, allocEp, allocEpCall}
 use Rattle.calls.proofs.Steps.{Step, one, Reached, none, then, Sane, Gentle}
 use Rattle.calls.proofs.Accounts.{Account, left, stores, by-test, txModify, rxModify, zeroModify, passes, below}
 

@@ -14,17 +14,18 @@ use Rattle.board.specs.declared.Direction.{Direction}
 use Rattle.board.specs.declared.Direction.the-variants.{Out, In}
 use Rattle.board.specs.Table.{areaAt}
 use Rattle.board.specs.Boards.{rows, at-most-six}
-use Rattle.regs.specs.declared.Side.{Side}
+use Rattle.csr.specs.declared.Side.{Side}
 use Rattle.regs.specs.declared.Regs.{Regs}
-use Rattle.regs.specs.Registers.{Whole, sideAt, chosen, withIso, withMaxp, withLen}
-use Rattle.regs.specs.Control.{txStored, rxStored}
-use Rattle.regs.specs.Sound.{SideOk}
+use Rattle.regs.specs.Registers.{Whole, sideAt, chosen}
+use Rattle.csr.specs.Registers.{withIso, withMaxp, withLen}
+use Rattle.csr.specs.Control.{txStored, rxStored}
+use Rattle.csr.specs.Sound.{SideOk}
 use Rattle.stores.specs.Stores.{Log}
 use Rattle.stores.specs.Promise.{Store, faddr, power, index, csr0l, csr0h, txcsrl, rxcsrl, iso, maxp, intrusbe, intre, packet, does, leaves, selects, addresses, SameHalts}
 use Rattle.stores.proofs.Promises.{sides, rest}
 use Rattle.stores.proofs.Halts.{SameStall, halts}
 use Rattle.laws.proofs.Tests.{clash}
-use Rattle.regs.proofs.Tame.{Tame, stays-ok, same, either, one-way, alike, tx-tame, rx-tame, zero-tame, dropped-tame}
+use Rattle.csr.proofs.Tame.{Tame, stays-ok, same, either, one-way, alike, tx-tame, rx-tame, zero-tame, dropped-tame}
 
 -- A step is a store, or a packet with the store that sets its ready bit: between these two a length stands with its ready bit clear.
 pub data Step : Type 0 where

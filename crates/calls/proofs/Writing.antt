@@ -12,11 +12,12 @@ use Rattle.board.specs.declared.Board.{Board}
 use Rattle.board.specs.declared.Direction.the-variants.{In}
 use Rattle.board.specs.Table.{areaAt}
 use Rattle.board.specs.Boards.{rows, at-least-one}
-use Rattle.regs.specs.declared.Side.{Side}
-use Rattle.regs.specs.declared.control.Csr0lSet.the-variants as csr0l
-use Rattle.regs.specs.declared.control.TxcsrlSet.the-variants as txcsrl
+use Rattle.csr.specs.declared.Side.{Side}
+use Rattle.csr.specs.declared.Csr0lSet.the-variants as csr0l
+use Rattle.csr.specs.declared.TxcsrlSet.the-variants as txcsrl
 use Rattle.regs.specs.Registers.{sideAt, chosen}
-use Rattle.regs.proofs.Modified.{tx-readied, zero-readied}
+use Rattle.csr.proofs.Modified.{tx-readied}
+use Rattle.regs.proofs.Modified.{zero-readied}
 use Rattle.stores.specs.Stores.{Log, log, writeIndex, modifyCsr0l, modifyTxcsrl}
 use Rattle.stores.specs.Promise.{index, packet, does, leaves}
 use Rattle.stores.proofs.Promises.{rest, modify-csr0l, modify-txcsrl}
@@ -27,7 +28,9 @@ use Rattle.control_state.specs.declared.ControlStateEnum.{ControlStateEnum}
 use Rattle.control_state.specs.declared.ControlStateEnum.the-variants.{Idle, Setup, DataIn, DataOut, Accepted, NodataPhase}
 use Rattle.record.specs.declared.Record.{Record}
 use Rattle.record.specs.Record.{recordSound, areaOf, withControl}
-use Rattle.usb_device_write.specs.Write.{done, tooLong, untakenIn, notWritable, ownTestsAt, tests, blocked, loaded, nodataPhase, accepted, ended, txSize, dataIn, sentDataIn, sentZero, sentOther, sent, taken, writeCall, Ran}
+use Rattle.write_zero.specs.Write.{done, blocked, nodataPhase, accepted, ended, txSize, dataIn, sentDataIn, sentZero, Ran}
+use Rattle.write_tests.specs.Write.{tooLong, untakenIn, notWritable, ownTestsAt, tests}
+use Rattle.usb_device_write.specs.Write.{loaded, sentOther, sent, taken, writeCall}
 use Rattle.usb_device_write.specs.Replies.{Given, done as granted, blocks, beyond, long, untaken, little, unsound}
 use Rattle.usb_device_write.proofs.Answers.{exactly}
 use Rattle.laws.proofs.Tests.{clash}

@@ -4,13 +4,18 @@ use Prim.Native.Nat.{ℕ}
 use mathlib.Core.Bool.{Bool}
 use mathlib.Core.List.{List, []}
 use Rattle.board.specs.declared.Direction.{Direction}
-use Rattle.alloc_endpoint.specs.declared.Wanted.{Wanted}
-use Rattle.alloc_endpoint.specs.Endpoints.{Ask}
+use Rattle.endpoints.specs.declared.Wanted.{Wanted}
+use Rattle.endpoints.specs.Endpoints.{Ask}
 use Rattle.record.specs.declared.Record.{Record}
-use Rattle.usb_device_impl.specs.declared.AllocEp.{AllocEp}
+use Rattle.usb_device_alloc.specs.declared.AllocEp.{AllocEp}
 use Rattle.usb_device_impl.specs.Calls as impl
-use Rattle.usb_device_write.specs.Write.{WriteOutcome, writeCall, wroteNumber}
-use Rattle.usb_device_read.specs.Read.{ReadOutcome, readCall, gotNumber}
+use Rattle.usb_device_alloc.specs.Calls as impl-alloc
+use Rattle.usb_device_reset.specs.Calls as impl-reset
+use Rattle.usb_device_stall.specs.Calls as impl-stall
+use Rattle.usb_device_write.specs.Write.{WriteOutcome, writeCall}
+use Rattle.write_zero.specs.Write.{wroteNumber}
+use Rattle.usb_device_read.specs.Read.{ReadOutcome, readCall}
+use Rattle.read_zero.specs.Read.{gotNumber}
 use Rattle.usb_device_poll.specs.Poll.{PollOutcome, pollCall, pollNumber}
 use Rattle.usb_device_interrupt.specs.declared.OnInterrupt.{OnInterrupt}
 use Rattle.usb_device_interrupt.specs.Interrupt.{interruptCall, interruptNumber}
@@ -50,11 +55,11 @@ pub record Outcome : Type 0 where
 abbrev pub called : impl.Outcome → Outcome
 called o = record { reply = impl.replyNumber (o .call .answer); «record» = o .call .«record»; stores = o .call .stores; fifo = []; list = o .list; buf = [] }
 
-abbrev pub told : impl.ToldOutcome → Outcome
-told o = record { reply = impl.toldNumber (o .call .answer); «record» = o .call .«record»; stores = o .call .stores; fifo = []; list = o .list; buf = [] }
+abbrev pub told : impl-stall.ToldOutcome → Outcome
+told o = record { reply = impl-stall.toldNumber (o .call .answer); «record» = o .call .«record»; stores = o .call .stores; fifo = []; list = o .list; buf = [] }
 
 abbrev pub allocated : AllocEp → Outcome
-allocated o = record { reply = impl.allocationNumber (o .answer); «record» = o .«record»; stores = 0; fifo = []; list = []; buf = [] }
+allocated o = record { reply = impl-alloc.allocationNumber (o .answer); «record» = o .«record»; stores = 0; fifo = []; list = []; buf = [] }
 
 abbrev pub written : WriteOutcome → Outcome
 written o = record { reply = wroteNumber (o .result .answer); «record» = o .result .«record»; stores = o .result .stores; fifo = o .fifo; list = o .list; buf = [] }
@@ -79,15 +84,15 @@ collected o = record { reply = host.takenNumber (o .answer); «record» = o .«r
 
 -- Each call's own definition decides; `forceReset` takes no record, so that it leaves any as it was.
 abbrev pub outcome : Record → Op → Outcome
-outcome k (allocEp q w) = allocated (impl.allocEpCall k q w)
+outcome k (allocEp q w) = allocated (impl-alloc.allocEpCall k q w)
 outcome k (busInit l) = called (impl.busInitCall k l)
 outcome k (enable l) = called (impl.enableCall k l)
-outcome k (reset l) = called (impl.resetCall k l)
+outcome k (reset l) = called (impl-reset.resetCall k l)
 outcome k (setDeviceAddress a l) = called (impl.addressCall k a l)
 outcome k (write e b f l) = written (writeCall k e b f l)
 outcome k (read e f l b) = fetched (readCall k e f l b)
-outcome k (setStalled e d s l) = called (impl.setStalledCall k e d s l)
-outcome k (isStalled e d l) = told (impl.isStalledCall k e d l)
+outcome k (setStalled e d s l) = called (impl-stall.setStalledCall k e d s l)
+outcome k (isStalled e d l) = told (impl-stall.isStalledCall k e d l)
 outcome k (poll l) = polled (pollCall k l)
 outcome k onInterrupt = interrupted (interruptCall k)
 outcome k forceReset = record { reply = impl.replyNumber impl.forceResetCall; «record» = k; stores = 0; fifo = []; list = []; buf = [] }

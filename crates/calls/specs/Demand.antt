@@ -10,8 +10,8 @@ use mathlib.Core.List.{List, [], _∷_}
 use lib.Dec.{eqb}
 use lib.ListN.{drop}
 use Rattle.regs.specs.Registers.{withIndex}
-use Rattle.alloc_endpoint.specs.declared.Wanted.{Wanted}
-use Rattle.alloc_endpoint.specs.declared.Wanted.the-variants.{Any, Number}
+use Rattle.endpoints.specs.declared.Wanted.{Wanted}
+use Rattle.endpoints.specs.declared.Wanted.the-variants.{Any, Number}
 use Rattle.record.specs.declared.Record.{Record}
 use Rattle.record.specs.Record.{withRegs}
 use Rattle.calls.specs.Calls.{Op, allocEp, busInit, enable, reset, setDeviceAddress, write, read, setStalled, isStalled, poll, onInterrupt, forceReset, arrival, collection, busReset, suspend, resume, setupEnd, underrun, overrun, Outcome, outcome}

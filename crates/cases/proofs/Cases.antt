@@ -1,17 +1,17 @@
 -- The one statement of P1 to P16: what each case gives is what document 01 says. Assumes nothing.
 use Prim.Native.Nat.{ℕ}
-use mathlib.Core.Path.{_≡_, ap₂, sym, _∙_}
+use mathlib.Core.Path.{ap₂, sym, _∙_}
 use mathlib.Core.List.{List, _++_, map-append}
 use Rattle.board.specs.declared.Board.the-variants.{Display}
 use Rattle.board.specs.Boards.{rows}
-use Rattle.alloc_endpoint.specs.Cases.{Case, Hold, allocations}
-use Rattle.usb_device_write.specs.Cases.{writes}
-use Rattle.usb_device_read.specs.Cases.{readings}
-use Rattle.usb_device_poll.specs.Cases.{rounds}
-use Rattle.alloc_endpoint.proofs.Cases.{p1-to-p10}
-use Rattle.usb_device_write.proofs.Cases.{p11-and-p12}
-use Rattle.usb_device_read.proofs.Cases.{p13}
-use Rattle.usb_device_poll.proofs.Cases.{p14-to-p16}
+use Rattle.cases.specs.Allocations.{Case, Hold, allocations}
+use Rattle.cases.specs.Writes.{writes}
+use Rattle.cases.specs.Readings.{readings}
+use Rattle.cases.specs.Rounds.{rounds}
+use Rattle.cases.proofs.Allocations.{p1-to-p10}
+use Rattle.cases.proofs.Writes.{p11-and-p12}
+use Rattle.cases.proofs.Readings.{p13}
+use Rattle.cases.proofs.Rounds.{p14-to-p16}
 use Rattle.cases.specs.Table.{table}
 
 -- two lists of cases that hold, one after the other

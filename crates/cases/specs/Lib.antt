@@ -1,1 +1,5 @@
 pub mod Table
+pub mod Writes
+pub mod Readings
+pub mod Rounds
+pub mod Allocations

@@ -3,10 +3,10 @@
 use mathlib.Core.List.{List, _++_}
 use Rattle.board.specs.declared.Board.the-variants.{Display}
 use Rattle.board.specs.Boards.{rows}
-use Rattle.alloc_endpoint.specs.Cases.{Case, allocations}
-use Rattle.usb_device_write.specs.Cases.{writes}
-use Rattle.usb_device_read.specs.Cases.{readings}
-use Rattle.usb_device_poll.specs.Cases.{rounds}
+use Rattle.cases.specs.Allocations.{Case, allocations}
+use Rattle.cases.specs.Writes.{writes}
+use Rattle.cases.specs.Readings.{readings}
+use Rattle.cases.specs.Rounds.{rounds}
 
 -- P1 to P10, P11 and P12, P13, P14 to P16
 abbrev pub table : List Case

@@ -5,8 +5,8 @@ use mathlib.Core.Path.{_≡_, refl, _∙_}
 use mathlib.Core.List.{List, _++_}
 use lib.ListN.{length, getD, length-append}
 use Rattle.regs.specs.declared.Regs.{Regs}
-use Rattle.alloc_endpoint.specs.declared.EndpointData.{EndpointData}
-use Rattle.alloc_endpoint.specs.Endpoints.{blank}
+use Rattle.endpoints.specs.declared.EndpointData.{EndpointData}
+use Rattle.endpoints.specs.Endpoints.{blank}
 use Rattle.record.specs.declared.Record.{Record}
 use Rattle.details.specs.Numbers.{ofChip, registersAt, shownAt, lengthsAt, ofData, ofEndpoint, ofEndpoints, ofFlags, recordNumbers}
 

@@ -1,7 +1,7 @@
 -- The lines of two lists of stores, as they are printed. Assumes nothing.
 use mathlib.Core.Path.{_≡_, refl}
 use mathlib.Core.List.{[], _∷_}
-use Rattle.report.specs.Text.{digits, decimal, field}
+use Rattle.text.specs.Text.{digits, decimal, field}
 use Rattle.details.specs.Lines.{store, stores, storesLine}
 
 -- `  stores 3,1,1 7,1,10`

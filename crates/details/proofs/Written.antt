@@ -6,12 +6,12 @@ use native.Mathlib.Numerals.{add-one}
 use mathlib.Core.Path.{_≡_, refl, sym, ap}
 use mathlib.Core.List.{List, [], _∷_, _++_}
 use lib.ListN.{length, getD, length-append}
-use Rattle.report.specs.Text.{Wrote, decimal, field, fields}
-use Rattle.report.proofs.Decimal.{more-digits, length-3}
-use Rattle.report.proofs.Appended.{then, said, fields-append}
+use Rattle.text.specs.Text.{Wrote, decimal, field, fields}
+use Rattle.text.proofs.Decimal.{more-digits, length-3}
+use Rattle.text.proofs.Appended.{then, said, fields-append}
 use Rattle.regs.specs.declared.Regs.{Regs}
-use Rattle.alloc_endpoint.specs.declared.EndpointData.{EndpointData}
-use Rattle.alloc_endpoint.specs.Endpoints.{blank}
+use Rattle.endpoints.specs.declared.EndpointData.{EndpointData}
+use Rattle.endpoints.specs.Endpoints.{blank}
 use Rattle.details.specs.Lines.{store, stores}
 use Rattle.details.specs.Numbers.{registersAt, shownAt, ofEndpoint, ofEndpoints}
 

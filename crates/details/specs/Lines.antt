@@ -3,7 +3,8 @@
 use Prim.Native.Nat.{ℕ, zero, suc, _+_, _*_}
 use mathlib.Core.List.{List, [], _∷_, _++_}
 use lib.ListN.{getD}
-use Rattle.report.specs.Text.{decimal, field, fields, newline}
+use Rattle.text.specs.Text.{decimal, field, fields}
+use Rattle.report.specs.Text.{newline}
 use Rattle.record.specs.declared.Record.{Record}
 use Rattle.details.specs.Numbers.{recordNumbers}
 

@@ -9,9 +9,10 @@ use Rattle.board.specs.declared.Direction.the-variants.{Out, In}
 use Rattle.regs.specs.declared.Intrusb.{Intrusb}
 use Rattle.regs.specs.declared.Regs.{Regs}
 use Rattle.regs.specs.Registers.{sideAt, withIndex}
-use Rattle.regs.specs.Control.{csr0lNumber, txcsrlNumber, rxcsrlNumber, csr0lRead, txcsrlRead, rxcsrlRead}
-use Rattle.alloc_endpoint.specs.declared.EndpointData.{EndpointData}
-use Rattle.alloc_endpoint.specs.Endpoints.{typeNumber, blank}
+use Rattle.csr.specs.Control.{csr0lNumber, txcsrlNumber, rxcsrlNumber}
+use Rattle.regs.specs.Control.{csr0lRead, txcsrlRead, rxcsrlRead}
+use Rattle.endpoints.specs.declared.EndpointData.{EndpointData}
+use Rattle.endpoints.specs.Endpoints.{typeNumber, blank}
 use Rattle.control_state.specs.declared.ControlState.{ControlState}
 use Rattle.control_state.specs.Numbers.{stateNumber}
 use Rattle.record.specs.declared.Flags.{Flags}

@@ -1,18 +1,17 @@
 // The two lines that stand under an entry's line when the detail is asked for: the stores that it listed, and the record after it as
 // numbers. They are for comparing with the original, whose own detail report has the same two lines.
-use alloc_endpoint::EndpointData;
 use board::Direction;
 use control_state::ControlState;
+use endpoints::EndpointData;
 use record::Flags;
 use record::Record;
 use regs::Intrusb;
 use regs::Regs;
-use regs::control;
 ghost use mathlib.Core.Path.{_≡_};
 ghost use mathlib.Core.Bool.{cond};
 ghost use Prim.Native.Nat.{_+_, _*_, _≤_, _<_};
-ghost use lib.ListN.{length, getD};
-ghost use Rattle.report.specs.Text.{Wrote, fields};
+ghost use lib.ListN.{length};
+ghost use Rattle.text.specs.Text.{Wrote, fields};
 ghost use Rattle.details.specs.Lines.{store, stores, storesLine, recordLine};
 ghost use Rattle.details.specs.Numbers.{intrusbNumber, csr0lAt, ofChip, txcsrlAt, rxcsrlAt, registersAt, shownAt, lengthsAt, ofData, ofEndpoint, ofEndpoints, ofFlags, recordNumbers};
 
@@ -28,11 +27,11 @@ fn put_store(out: &mut [u8], at: usize, register: u16, endpoint: u16, value: u16
     ensures { λ r. ⌜ Wrote (now (out .entry)) (now (out .exit)) at r (store register endpoint value) ⌝ }
     ensures { λ r. ⌜ r ≤ at + 18 ⌝ }
 {
-    let a = report::put_field(out, at, wide(register));
-    let b = report::put_text(out, a, b",");
-    let c = report::put_decimal(out, b, wide(endpoint));
-    let d = report::put_text(out, c, b",");
-    report::put_decimal(out, d, wide(value))
+    let a = text::put_field(out, at, wide(register));
+    let b = text::put_text(out, a, b",");
+    let c = text::put_decimal(out, b, wide(endpoint));
+    let d = text::put_text(out, c, b",");
+    text::put_decimal(out, d, wide(value))
 }
 
 // The first n stores of a list, three numbers a store.
@@ -55,9 +54,9 @@ pub fn stores_line(out: &mut [u8], list: &[u16], n: usize) -> usize
     ensures { λ r. ⌜ Wrote (now (out .entry)) (now (out .exit)) 0 r (storesLine (now (list .entry)) n) ⌝ }
     ensures { λ r. ⌜ r ≤ 100 + 18 * n ⌝ }
 {
-    let a = report::put_text(out, 0, b"  stores");
+    let a = text::put_text(out, 0, b"  stores");
     let b = put_stores(out, a, list, n);
-    report::put_text(out, b, b"\n")
+    text::put_text(out, b, b"\n")
 }
 
 fn weight(b: bool, n: u32) -> u32
@@ -75,7 +74,7 @@ fn intrusb_number(u: Intrusb) -> u32
 fn csr0l_number(r: Regs) -> u16
     ensures { λ n. ⌜ n ≡ csr0lAt r ⌝ }
 {
-    control::csr0l_number(control::read_csr0l(r))
+    csr::csr0l_number(regs::read_csr0l(r))
 }
 
 // The registers of the chip as a whole, and endpoint 0's own.
@@ -105,7 +104,7 @@ fn txcsrl_at(r: Regs, e: u8) -> u16
 {
     let mut s = r;
     s.index = e;
-    control::txcsrl_number(control::read_txcsrl(s))
+    csr::txcsrl_number(regs::read_txcsrl(s))
 }
 
 fn rxcsrl_at(r: Regs, e: u8) -> u16
@@ -113,7 +112,7 @@ fn rxcsrl_at(r: Regs, e: u8) -> u16
 {
     let mut s = r;
     s.index = e;
-    control::rxcsrl_number(control::read_rxcsrl(s))
+    csr::rxcsrl_number(regs::read_rxcsrl(s))
 }
 
 fn registers_at(r: Regs, e: u8) -> [u32; 6]
@@ -156,7 +155,7 @@ fn of_data(d: EndpointData) -> [u32; 5]
     let conf = d.ep_conf;
     let kind = conf.ep_type;
     [
-        alloc_endpoint::type_number(kind) as u32,
+        endpoints::type_number(kind) as u32,
         conf.tx_max_packet_size as u32,
         conf.rx_max_packet_size as u32,
         weight(d.used_tx, 1),
@@ -190,7 +189,7 @@ fn put_numbers(out: &mut [u8], at: usize, s: &[u32]) -> usize
     let mut i = 0usize;
     let mut m = at;
     while i < s.len() {
-        m = report::put_field(out, m, s[i]);
+        m = text::put_field(out, m, s[i]);
         i += 1;
     }
     m
@@ -246,7 +245,7 @@ pub fn record_line(out: &mut [u8], k: Record) -> usize
     ensures { λ r. ⌜ Wrote (now (out .entry)) (now (out .exit)) 0 r (recordLine k) ⌝ }
     ensures { λ r. ⌜ r ≤ 1100 ⌝ }
 {
-    let a = report::put_text(out, 0, b"  record");
+    let a = text::put_text(out, 0, b"  record");
     let b = put_record(out, a, k);
-    report::put_text(out, b, b"\n")
+    text::put_text(out, b, b"\n")
 }

@@ -1,7 +1,6 @@
 -- Each answer of the code from what its callees gave: x and y are arguments that were read, r and q what an argument was made into.
 -- Assumes nothing.
-use Prim.Native.Nat.{ℕ, _+_, _-_, _<_, _≤_}
-use native.Mathlib.Omega.{arith}
+use Prim.Native.Nat.{ℕ, _<_, _≤_}
 use mathlib.Core.Path.{_≡_, _∙_}
 use mathlib.Core.Bool.{Bool}
 use mathlib.Core.List.{List}
@@ -11,68 +10,21 @@ use Rattle.reader.specs.declared.Number.{Number}
 use Rattle.reader.specs.declared.Number.the-variants.{Value, Bad as NoNumber}
 use Rattle.reader.specs.Groups.{numberAt}
 use Rattle.board.specs.declared.Direction.{Direction}
-use Rattle.alloc_endpoint.specs.declared.EndpointType.{EndpointType}
-use Rattle.alloc_endpoint.specs.declared.Wanted.{Wanted}
-use Rattle.entries.specs.declared.BusEvent.{BusEvent}
-use Rattle.entries.specs.declared.Arg.{Arg}
-use Rattle.entries.specs.declared.Arg.the-variants.{Got, No}
-use Rattle.entries.specs.declared.Two.{Two}
-use Rattle.entries.specs.declared.Two.the-variants.{Both, Neither}
-use Rattle.entries.specs.declared.Held.{Held}
-use Rattle.entries.specs.declared.Held.the-variants.{Bytes, Cut}
+use Rattle.endpoints.specs.declared.EndpointType.{EndpointType}
+use Rattle.endpoints.specs.declared.Wanted.{Wanted}
+use Rattle.arguments.specs.declared.BusEvent.{BusEvent}
+use Rattle.arguments.specs.declared.Arg.{Arg}
+use Rattle.arguments.specs.declared.Arg.the-variants.{Got, No}
+use Rattle.arguments.specs.declared.Two.{Two}
+use Rattle.arguments.specs.declared.Two.the-variants.{Both, Neither}
+use Rattle.arguments.specs.declared.Held.{Held}
+use Rattle.arguments.specs.declared.Held.the-variants.{Bytes, Cut}
 use Rattle.entries.specs.declared.Entry.the-variants.{Allocate, Address, Write, Read, Stall, IsStalled, Arrival, Collect, Bus, Underrun, Overrun}
 use Rattle.entries.specs.declared.Parsed.{Parsed}
 use Rattle.entries.specs.declared.Parsed.the-variants.{Found, End, Bad}
-use Rattle.entries.specs.Arguments.{argAt, twoAt, directionOf, wantedOf, typeOf, busOf, flagOf}
-use Rattle.entries.specs.Entries.{allocateAt, addressAt, heldIn, packetAt, writeAt, readAt, stallAt, isStalledAt, arrivalAt, collectAt, busAt, underrunAt, overrunAt, codeAt, entryAt}
-
--- `arg_at`
-module _ (s : List ℕ) (at most : ℕ) (x : Number) (e : x ≡ numberAt s at) where
-  pub arg-ok : (a past : ℕ) → x ≡ Value a past → a ≤ most → Got a past ≡ argAt s at most
-  unfolding argAt
-  arg-ok a past v h = rw (← e, v) (simp (le-leb _ _ h))
-
-  pub arg-over : (a past : ℕ) → x ≡ Value a past → most < a → No ≡ argAt s at most
-  unfolding argAt
-  arg-over a past v h = rw (← e, v) (simp (lt-leb _ _ h))
-
-  pub arg-bad : x ≡ NoNumber → No ≡ argAt s at most
-  unfolding argAt
-  arg-bad v = rw (← e, v)
-
--- `two_at`
-module _ (s : List ℕ) (at m n : ℕ) (x : Arg) (e : x ≡ argAt s at m) where
-  pub two-none : x ≡ No → Neither ≡ twoAt s at m n
-  unfolding twoAt
-  two-none v = rw (← e, v)
-
-  module _ (a mid : ℕ) (v : x ≡ Got a mid) (y : Arg) (f : y ≡ argAt s mid n) where
-    pub two-both : (b past : ℕ) → y ≡ Got b past → Both a b past ≡ twoAt s at m n
-    unfolding twoAt
-    two-both b past w = rw (← e, v, ← f, w)
-
-    pub two-one : y ≡ No → Neither ≡ twoAt s at m n
-    unfolding twoAt
-    two-one w = rw (← e, v, ← f, w)
-
--- `held_in`, `packet_at`
-module _ (s : List ℕ) (e n start : ℕ) (inside : start ≤ length s) where
-  pub held-cut : length s - start < n → Cut ≡ heldIn s e n start
-  unfolding heldIn
-  held-cut h = let l : length s < start + n = omega arith in simp (lt-leb _ _ l)
-
-  pub held-all : n ≤ length s - start → Bytes e start n (start + n) ≡ heldIn s e n start
-  unfolding heldIn
-  held-all h = let l : start + n ≤ length s = omega arith in simp (le-leb _ _ l)
-
-module _ (s : List ℕ) (at : ℕ) (x : Two) (e : x ≡ twoAt s at 255 65535) where
-  pub packet-is : (a n start q : ℕ) (h : Held) → x ≡ Both a n start → q ≡ a → h ≡ heldIn s q n start → h ≡ packetAt s at
-  unfolding packetAt
-  packet-is a n start q h v is g = g ∙ rw (← e, v, is)
-
-  pub packet-none : x ≡ Neither → Cut ≡ packetAt s at
-  unfolding packetAt
-  packet-none v = rw (← e, v)
+use Rattle.arguments.specs.Arguments.{argAt, twoAt, directionOf, wantedOf, typeOf, busOf, flagOf}
+use Rattle.entries.specs.Entries.{allocateAt, addressAt, writeAt, readAt, stallAt, isStalledAt, arrivalAt, collectAt, busAt, underrunAt, overrunAt, codeAt, entryAt}
+use Rattle.arguments.specs.Entries.{packetAt}
 
 -- the entries, by their codes
 module _ (s : List ℕ) (at : ℕ) (x : Two) (e : x ≡ twoAt s at 1 256) where
@@ -176,7 +128,6 @@ module _ (s : List ℕ) (at : ℕ) (x : Arg) (e : x ≡ argAt s at 255) where
   unfolding underrunAt
   underrun-bad v = rw (← e, v)
 
-module _ (s : List ℕ) (at : ℕ) (x : Arg) (e : x ≡ argAt s at 255) where
   pub overrun-is : (a past : ℕ) (r : ℕ) → x ≡ Got a past → r ≡ a → Found (Overrun r) past ≡ overrunAt s at
   unfolding overrunAt
   overrun-is a past r v q = rw (← e, v, q)

@@ -11,17 +11,18 @@ use borrow.Author.Tests.{eqb-true}
 use Rattle.reader.specs.declared.Number.{Number}
 use Rattle.reader.specs.declared.Number.the-variants.{Value}
 use Rattle.reader.specs.Groups.{numberAt}
-use Rattle.entries.specs.declared.Arg.{Arg}
-use Rattle.entries.specs.declared.Arg.the-variants.{Got, No}
-use Rattle.entries.specs.declared.Two.{Two}
-use Rattle.entries.specs.declared.Two.the-variants.{Both, Neither}
-use Rattle.entries.specs.declared.Held.{Held}
-use Rattle.entries.specs.declared.Held.the-variants.{Bytes, Cut}
+use Rattle.arguments.specs.declared.Arg.{Arg}
+use Rattle.arguments.specs.declared.Arg.the-variants.{Got, No}
+use Rattle.arguments.specs.declared.Two.{Two}
+use Rattle.arguments.specs.declared.Two.the-variants.{Both, Neither}
+use Rattle.arguments.specs.declared.Held.{Held}
+use Rattle.arguments.specs.declared.Held.the-variants.{Bytes, Cut}
 use Rattle.entries.specs.declared.Entry.{Entry}
 use Rattle.entries.specs.declared.Parsed.{Parsed}
 use Rattle.entries.specs.declared.Parsed.the-variants.{Found, End, Bad}
-use Rattle.entries.specs.Arguments.{argAt, twoAt}
-use Rattle.entries.specs.Entries.{withArg, withTwo, withPacket, packetAt, allocateAt, addressAt, writeAt, readAt, stallAt, isStalledAt, arrivalAt, collectAt, busAt, underrunAt, overrunAt, codeAt, withCode, entryAt, codeOf}
+use Rattle.arguments.specs.Arguments.{argAt, twoAt}
+use Rattle.entries.specs.Entries.{withArg, withTwo, withPacket, allocateAt, addressAt, writeAt, readAt, stallAt, isStalledAt, arrivalAt, collectAt, busAt, underrunAt, overrunAt, codeAt, withCode, entryAt, codeOf}
+use Rattle.arguments.specs.Entries.{packetAt}
 
 -- an entry, if there is one, has the code c
 pub data Coded (c : ℕ) : Parsed → Type 0 where

@@ -8,17 +8,18 @@ use lib.ListN.{length}
 use Rattle.reader.specs.declared.Number.{Number}
 use Rattle.reader.specs.declared.Number.the-variants.{Value, Bad as NoNumber}
 use Rattle.reader.specs.Groups.{numberAt}
-use Rattle.entries.specs.declared.Arg.{Arg}
-use Rattle.entries.specs.declared.Arg.the-variants.{Got, No}
-use Rattle.entries.specs.declared.Two.{Two}
-use Rattle.entries.specs.declared.Two.the-variants.{Both, Neither}
-use Rattle.entries.specs.declared.Held.{Held}
-use Rattle.entries.specs.declared.Held.the-variants.{Bytes, Cut}
+use Rattle.arguments.specs.declared.Arg.{Arg}
+use Rattle.arguments.specs.declared.Arg.the-variants.{Got, No}
+use Rattle.arguments.specs.declared.Two.{Two}
+use Rattle.arguments.specs.declared.Two.the-variants.{Both, Neither}
+use Rattle.arguments.specs.declared.Held.{Held}
+use Rattle.arguments.specs.declared.Held.the-variants.{Bytes, Cut}
 use Rattle.entries.specs.declared.Entry.{Entry}
 use Rattle.entries.specs.declared.Entry.the-variants.{Allocate, Init, Reset, Address, Write, Read, Stall, IsStalled, Poll, Interrupt, Enable, Arrival, Collect, Bus, SetupEnd, Underrun, Overrun}
 use Rattle.entries.specs.declared.Parsed.{Parsed}
 use Rattle.entries.specs.declared.Parsed.the-variants.{Found, End, Bad}
-use Rattle.entries.specs.Arguments.{argAt, twoAt, directionOf, wantedOf, typeOf, busOf, flagOf}
+use Rattle.arguments.specs.Arguments.{argAt, twoAt, directionOf, wantedOf, typeOf, busOf, flagOf}
+use Rattle.arguments.specs.Entries.{packetAt}
 
 -- what follows from arguments, or bad where there are none
 abbrev pub withArg : (ℕ → ℕ → Parsed) → Arg → Parsed
@@ -40,18 +41,6 @@ allocateAt s at = withTwo (λ d w mid. withTwo (λ t n past. Found (Allocate (di
 -- "4 address", "addresses to 255"
 unfoldable pub addressAt : List ℕ → ℕ → Parsed
 addressAt s at = withArg (λ a past. Found (Address a) past) (argAt s at 255)
-
--- the n bytes from `start` on lie inside the trace, or the packet is cut
-unfoldable pub heldIn : List ℕ → ℕ → ℕ → ℕ → Held
-heldIn s e n start = cond (leb (start + n) (length s)) (Bytes e start n (start + n)) Cut
-
-abbrev pub heldBy : List ℕ → Two → Held
-heldBy s (Both e n start) = heldIn s e n start
-heldBy s Neither = Cut
-
--- "(endpoint, length, bytes)", "Packet bytes stand raw."
-unfoldable pub packetAt : List ℕ → ℕ → Held
-packetAt s at = heldBy s (twoAt s at 255 65535)
 
 -- "5 write (endpoint, length, bytes)", "Endpoints to 255"
 unfoldable pub writeAt : List ℕ → ℕ → Parsed

@@ -1,20 +1,15 @@
 // The entries of an event trace: a code, its arguments, each in its range (document 01, 'Event trace').
 // Every number goes through `reader::number_from`. A packet stays in the trace: an entry holds its start and its length.
-ghost use mathlib.Core.Path.{_≡_};
-ghost use Prim.Native.Nat.{_≤_};
-ghost use lib.ListN.{length};
-ghost use Rattle.entries.specs.Arguments.{argAt, twoAt, directionOf, wantedOf, typeOf, busOf, flagOf};
-ghost use Rattle.entries.specs.Entries.{allocateAt, addressAt, heldIn, packetAt, writeAt, readAt, stallAt, isStalledAt, arrivalAt, collectAt, busAt, underrunAt, overrunAt, codeAt, entryAt, codeOf};
-use alloc_endpoint::EndpointType;
-use alloc_endpoint::Wanted;
+use arguments::Arg;
+use arguments::BusEvent;
+use arguments::Held;
+use arguments::Two;
 use board::Direction;
+use endpoints::EndpointType;
+use endpoints::Wanted;
 use reader::Number;
-
-pub enum BusEvent {
-    Reset,
-    Suspend,
-    Resume,
-}
+ghost use mathlib.Core.Path.{_≡_};
+ghost use Rattle.entries.specs.Entries.{allocateAt, addressAt, writeAt, readAt, stallAt, isStalledAt, arrivalAt, collectAt, busAt, underrunAt, overrunAt, codeAt, entryAt, codeOf};
 
 // One case for each code, 1 to 17 in this order. A packet is its endpoint, where its bytes start in the trace, and how many they are.
 pub enum Entry {
@@ -44,112 +39,18 @@ pub enum Parsed {
     Bad,
 }
 
-// An argument in its range, with the place after it.
-pub enum Arg {
-    Got(u16, usize),
-    No,
-}
-
-// Two arguments, each in its range, with the place after them.
-pub enum Two {
-    Both(u16, u16, usize),
-    Neither,
-}
-
-// A packet (endpoint, start, length) whose bytes lie inside the trace, with the place after them.
-pub enum Held {
-    Bytes(u8, usize, usize, usize),
-    Cut,
-}
-
-fn arg_at(s: &[u8], at: usize, most: u16) -> Arg
-    ensures { λ r. ⌜ r ≡ argAt (now (s .entry)) at most ⌝ }
-{
-    match reader::number_from(s, at) {
-        Number::Value(a, past) => {
-            if a <= most {
-                Arg::Got(a, past)
-            } else {
-                Arg::No
-            }
-        }
-        Number::Bad => Arg::No,
-    }
-}
-
-fn two_at(s: &[u8], at: usize, m: u16, n: u16) -> Two
-    ensures { λ r. ⌜ r ≡ twoAt (now (s .entry)) at m n ⌝ }
-{
-    match arg_at(s, at, m) {
-        Arg::Got(a, mid) => match arg_at(s, mid, n) {
-            Arg::Got(b, past) => Two::Both(a, b, past),
-            Arg::No => Two::Neither,
-        },
-        Arg::No => Two::Neither,
-    }
-}
-
-fn narrow(n: u16) -> u8
-    requires { ⌜ n ≤ 255 ⌝ }
-    ensures { λ r. ⌜ r ≡ n ⌝ }
-{
-    n as u8
-}
-
-fn direction_of(n: u16) -> Direction
-    ensures { λ r. ⌜ r ≡ directionOf n ⌝ }
-{
-    if n == 0 {
-        Direction::Out
-    } else {
-        Direction::In
-    }
-}
-
-fn flag_of(n: u16) -> bool
-    ensures { λ r. ⌜ r ≡ flagOf n ⌝ }
-{
-    n == 1
-}
-
-fn wanted_of(n: u16) -> Wanted
-    requires { ⌜ n ≤ 256 ⌝ }
-    ensures { λ r. ⌜ r ≡ wantedOf n ⌝ }
-{
-    if n == 0 {
-        return Wanted::Any;
-    }
-    Wanted::Number((n - 1) as u8)
-}
-
-fn type_of(n: u16) -> EndpointType
-    ensures { λ r. ⌜ r ≡ typeOf n ⌝ }
-{
-    match n {
-        0 => EndpointType::Control,
-        1 => EndpointType::Isochronous,
-        2 => EndpointType::Bulk,
-        _ => EndpointType::Interrupt,
-    }
-}
-
-fn bus_of(n: u16) -> BusEvent
-    ensures { λ r. ⌜ r ≡ busOf n ⌝ }
-{
-    match n {
-        0 => BusEvent::Reset,
-        1 => BusEvent::Suspend,
-        _ => BusEvent::Resume,
-    }
-}
-
 fn allocate_at(s: &[u8], at: usize) -> Parsed
     ensures { λ r. ⌜ r ≡ allocateAt (now (s .entry)) at ⌝ }
 {
-    match two_at(s, at, 1, 256) {
-        Two::Both(d, w, mid) => match two_at(s, mid, 3, 65535) {
+    match arguments::two_at(s, at, 1, 256) {
+        Two::Both(d, w, mid) => match arguments::two_at(s, mid, 3, 65535) {
             Two::Both(t, n, past) => Parsed::Found(
-                Entry::Allocate(direction_of(d), wanted_of(w), type_of(t), n),
+                Entry::Allocate(
+                    arguments::direction_of(d),
+                    arguments::wanted_of(w),
+                    arguments::type_of(t),
+                    n,
+                ),
                 past,
             ),
             Two::Neither => Parsed::Bad,
@@ -161,37 +62,16 @@ fn allocate_at(s: &[u8], at: usize) -> Parsed
 fn address_at(s: &[u8], at: usize) -> Parsed
     ensures { λ r. ⌜ r ≡ addressAt (now (s .entry)) at ⌝ }
 {
-    match arg_at(s, at, 255) {
-        Arg::Got(a, past) => Parsed::Found(Entry::Address(narrow(a)), past),
+    match arguments::arg_at(s, at, 255) {
+        Arg::Got(a, past) => Parsed::Found(Entry::Address(arguments::narrow(a)), past),
         Arg::No => Parsed::Bad,
-    }
-}
-
-// A packet of n bytes from start on.
-fn held_in(s: &[u8], e: u8, n: usize, start: usize) -> Held
-    requires { ⌜ start ≤ length (now s) ⌝ }
-    ensures { λ r. ⌜ r ≡ heldIn (now (s .entry)) e n start ⌝ }
-{
-    if s.len() - start < n {
-        return Held::Cut;
-    }
-    Held::Bytes(e, start, n, start + n)
-}
-
-// Endpoint, length, bytes. Form comes before meaning: a packet that is cut is bad whatever its endpoint.
-fn packet_at(s: &[u8], at: usize) -> Held
-    ensures { λ r. ⌜ r ≡ packetAt (now (s .entry)) at ⌝ }
-{
-    match two_at(s, at, 255, 65535) {
-        Two::Both(e, n, start) => held_in(s, narrow(e), n as usize, start),
-        Two::Neither => Held::Cut,
     }
 }
 
 fn write_at(s: &[u8], at: usize) -> Parsed
     ensures { λ r. ⌜ r ≡ writeAt (now (s .entry)) at ⌝ }
 {
-    match packet_at(s, at) {
+    match arguments::packet_at(s, at) {
         Held::Bytes(e, start, n, past) => Parsed::Found(Entry::Write(e, start, n), past),
         Held::Cut => Parsed::Bad,
     }
@@ -200,8 +80,8 @@ fn write_at(s: &[u8], at: usize) -> Parsed
 fn read_at(s: &[u8], at: usize) -> Parsed
     ensures { λ r. ⌜ r ≡ readAt (now (s .entry)) at ⌝ }
 {
-    match two_at(s, at, 255, 512) {
-        Two::Both(e, n, past) => Parsed::Found(Entry::Read(narrow(e), n), past),
+    match arguments::two_at(s, at, 255, 512) {
+        Two::Both(e, n, past) => Parsed::Found(Entry::Read(arguments::narrow(e), n), past),
         Two::Neither => Parsed::Bad,
     }
 }
@@ -209,10 +89,14 @@ fn read_at(s: &[u8], at: usize) -> Parsed
 fn stall_at(s: &[u8], at: usize) -> Parsed
     ensures { λ r. ⌜ r ≡ stallAt (now (s .entry)) at ⌝ }
 {
-    match two_at(s, at, 255, 1) {
-        Two::Both(e, d, mid) => match arg_at(s, mid, 1) {
+    match arguments::two_at(s, at, 255, 1) {
+        Two::Both(e, d, mid) => match arguments::arg_at(s, mid, 1) {
             Arg::Got(a, past) => Parsed::Found(
-                Entry::Stall(narrow(e), direction_of(d), flag_of(a)),
+                Entry::Stall(
+                    arguments::narrow(e),
+                    arguments::direction_of(d),
+                    arguments::flag_of(a),
+                ),
                 past,
             ),
             Arg::No => Parsed::Bad,
@@ -224,8 +108,11 @@ fn stall_at(s: &[u8], at: usize) -> Parsed
 fn is_stalled_at(s: &[u8], at: usize) -> Parsed
     ensures { λ r. ⌜ r ≡ isStalledAt (now (s .entry)) at ⌝ }
 {
-    match two_at(s, at, 255, 1) {
-        Two::Both(e, d, past) => Parsed::Found(Entry::IsStalled(narrow(e), direction_of(d)), past),
+    match arguments::two_at(s, at, 255, 1) {
+        Two::Both(e, d, past) => Parsed::Found(
+            Entry::IsStalled(arguments::narrow(e), arguments::direction_of(d)),
+            past,
+        ),
         Two::Neither => Parsed::Bad,
     }
 }
@@ -233,7 +120,7 @@ fn is_stalled_at(s: &[u8], at: usize) -> Parsed
 fn arrival_at(s: &[u8], at: usize) -> Parsed
     ensures { λ r. ⌜ r ≡ arrivalAt (now (s .entry)) at ⌝ }
 {
-    match packet_at(s, at) {
+    match arguments::packet_at(s, at) {
         Held::Bytes(e, start, n, past) => Parsed::Found(Entry::Arrival(e, start, n), past),
         Held::Cut => Parsed::Bad,
     }
@@ -242,8 +129,8 @@ fn arrival_at(s: &[u8], at: usize) -> Parsed
 fn collect_at(s: &[u8], at: usize) -> Parsed
     ensures { λ r. ⌜ r ≡ collectAt (now (s .entry)) at ⌝ }
 {
-    match arg_at(s, at, 255) {
-        Arg::Got(a, past) => Parsed::Found(Entry::Collect(narrow(a)), past),
+    match arguments::arg_at(s, at, 255) {
+        Arg::Got(a, past) => Parsed::Found(Entry::Collect(arguments::narrow(a)), past),
         Arg::No => Parsed::Bad,
     }
 }
@@ -251,8 +138,8 @@ fn collect_at(s: &[u8], at: usize) -> Parsed
 fn bus_at(s: &[u8], at: usize) -> Parsed
     ensures { λ r. ⌜ r ≡ busAt (now (s .entry)) at ⌝ }
 {
-    match arg_at(s, at, 2) {
-        Arg::Got(a, past) => Parsed::Found(Entry::Bus(bus_of(a)), past),
+    match arguments::arg_at(s, at, 2) {
+        Arg::Got(a, past) => Parsed::Found(Entry::Bus(arguments::bus_of(a)), past),
         Arg::No => Parsed::Bad,
     }
 }
@@ -260,8 +147,8 @@ fn bus_at(s: &[u8], at: usize) -> Parsed
 fn underrun_at(s: &[u8], at: usize) -> Parsed
     ensures { λ r. ⌜ r ≡ underrunAt (now (s .entry)) at ⌝ }
 {
-    match arg_at(s, at, 255) {
-        Arg::Got(a, past) => Parsed::Found(Entry::Underrun(narrow(a)), past),
+    match arguments::arg_at(s, at, 255) {
+        Arg::Got(a, past) => Parsed::Found(Entry::Underrun(arguments::narrow(a)), past),
         Arg::No => Parsed::Bad,
     }
 }
@@ -269,8 +156,8 @@ fn underrun_at(s: &[u8], at: usize) -> Parsed
 fn overrun_at(s: &[u8], at: usize) -> Parsed
     ensures { λ r. ⌜ r ≡ overrunAt (now (s .entry)) at ⌝ }
 {
-    match arg_at(s, at, 255) {
-        Arg::Got(a, past) => Parsed::Found(Entry::Overrun(narrow(a)), past),
+    match arguments::arg_at(s, at, 255) {
+        Arg::Got(a, past) => Parsed::Found(Entry::Overrun(arguments::narrow(a)), past),
         Arg::No => Parsed::Bad,
     }
 }

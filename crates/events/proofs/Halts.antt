@@ -6,10 +6,11 @@ use borrow.Author.Tests.{ne-eqb}
 use lib.Dec.{eqb}
 use Rattle.board.specs.declared.Direction.{Direction}
 use Rattle.board.specs.declared.Direction.the-variants.{Out, In}
-use Rattle.regs.specs.declared.Side.{Side}
+use Rattle.csr.specs.declared.Side.{Side}
 use Rattle.regs.specs.declared.Regs.{Regs}
-use Rattle.regs.specs.Registers.{Whole, sideAt, towards}
-use Rattle.regs.specs.Control.{dropped}
+use Rattle.regs.specs.Registers.{Whole, sideAt}
+use Rattle.csr.specs.Registers.{towards}
+use Rattle.csr.specs.Control.{dropped}
 use Rattle.events.specs.Events.{lapsed}
 use Rattle.events.specs.Promise.{Event, arrival, collection, reset, suspend, resume, setupend, miss, happens, leaves, at}
 use Rattle.events.proofs.Promises.{sides}

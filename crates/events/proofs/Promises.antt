@@ -10,8 +10,9 @@ use lib.ListN.{length, length-set}
 use Rattle.board.specs.declared.Direction.{Direction}
 use Rattle.board.specs.declared.Direction.the-variants.{Out, In}
 use Rattle.regs.specs.declared.Regs.{Regs}
-use Rattle.regs.specs.Registers.{Whole, sideAt, withSide, towards}
-use Rattle.regs.specs.Control.{dropped}
+use Rattle.regs.specs.Registers.{Whole, sideAt, withSide}
+use Rattle.csr.specs.Registers.{towards}
+use Rattle.csr.specs.Control.{dropped}
 use Rattle.regs.proofs.Sides.{side-seen, side-same, side-other, side-flip, by-eps, keeps-length}
 use Rattle.events.specs.Events.{interrupting, waitingAt, arrived, collected, busReset, busSuspend, busResume, setupEnded, missing, received, unstalled, lapsed, raisedAt, intrusbCleared, intrCleared}
 use Rattle.events.specs.Promise.{Event, arrival, collection, reset, suspend, resume, setupend, miss, happens, leaves, raises, Kept, at}

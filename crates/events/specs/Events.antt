@@ -6,12 +6,12 @@ use lib.Dec.{eqb}
 use Rattle.laws.specs.Words.{raised}
 use Rattle.board.specs.declared.Direction.{Direction}
 use Rattle.board.specs.declared.Direction.the-variants.{Out, In}
-use Rattle.regs.specs.declared.Side.{Side}
+use Rattle.csr.specs.declared.Side.{Side}
 use Rattle.regs.specs.declared.Intrusb.{Intrusb}
 use Rattle.regs.specs.declared.Pending.{Pending}
 use Rattle.regs.specs.declared.Regs.{Regs}
 use Rattle.regs.specs.Registers.{sideAt, withSide, withPending, withSetupend}
-use Rattle.regs.specs.Control.{dropped}
+use Rattle.csr.specs.Control.{dropped}
 
 -- a pending interrupt more: transmit bits are raised for In, receive bits for Out
 abbrev pub raisedAt : Direction → ℕ → Pending → Pending

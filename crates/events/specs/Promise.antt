@@ -7,11 +7,11 @@ use lib.Dec.{eqb}
 use lib.ListN.{length}
 use Rattle.board.specs.declared.Direction.{Direction}
 use Rattle.board.specs.declared.Direction.the-variants.{Out, In}
-use Rattle.regs.specs.declared.Side.{Side}
+use Rattle.csr.specs.declared.Side.{Side}
 use Rattle.regs.specs.declared.Pending.{Pending}
 use Rattle.regs.specs.declared.Regs.{Regs}
-use Rattle.regs.specs.Registers.{towards}
-use Rattle.regs.specs.Control.{dropped}
+use Rattle.csr.specs.Registers.{towards}
+use Rattle.csr.specs.Control.{dropped}
 use Rattle.events.specs.Events.{arrived, collected, busReset, busSuspend, busResume, setupEnded, missing, received, unstalled, lapsed, raisedAt, withUsb}
 
 pub data Event : Type 0 where

@@ -4,7 +4,6 @@ use board::Span;
 use regs::Intrusb;
 use regs::Pending;
 use regs::Regs;
-use regs::control;
 ghost use mathlib.Core.Path.{_≡_};
 ghost use Prim.Native.Nat.{_+_, _≤_, _<_};
 ghost use lib.ListN.{length};
@@ -106,7 +105,7 @@ pub fn collect(r: Regs, e: u8) -> Regs
     requires { ⌜ e < 16 ⌝ }
     ensures { λ o. ⌜ o ≡ collected r e ⌝ }
 {
-    let s = control::drop_packet(true, regs::side_at(r, e, Direction::In));
+    let s = csr::drop_packet(true, regs::side_at(r, e, Direction::In));
     interrupt(regs::with_side(r, e, Direction::In, s), Direction::In, e)
 }
 

@@ -1,11 +1,12 @@
 // A record from the 96 numbers that a detail report prints of it, each in four bytes, low byte first: where the comparison of single
 // calls begins. Nothing is promised of what is built: a number that is read wrongly shows in the record that the comparison prints.
-use alloc_endpoint::EndpointConfig;
-use alloc_endpoint::EndpointData;
-use alloc_endpoint::EndpointType;
 use board::Board;
 use control_state::ControlState;
 use control_state::ControlStateEnum;
+use csr::Side;
+use endpoints::EndpointConfig;
+use endpoints::EndpointData;
+use endpoints::EndpointType;
 use record::Flags;
 use record::Record;
 use regs::Enable;
@@ -13,7 +14,6 @@ use regs::Ep;
 use regs::Intrusb;
 use regs::Pending;
 use regs::Regs;
-use regs::Side;
 ghost use Prim.Native.Nat.{_≤_, _<_};
 
 fn wide(x: u8) -> u32

@@ -4,16 +4,23 @@ use mathlib.Core.Bool.{Bool, true, false}
 use mathlib.Core.List.{List, [], _∷_, _++_}
 use Rattle.laws.specs.Words.{bit, raised, clear, bitsBelow, setBits}
 use Rattle.regs.specs.Registers.{freshRegs, sideAt, withSide}
-use Rattle.regs.specs.Control.{csr0lRead, txcsrlOf, rxcsrlOf, txStored, rxStored, txcsrlSet, rxcsrlSet, dropped}
-use Rattle.stores.specs.Stores.{listed, noted, writeIndex, writeTxcsrl, writeRxcsrl, modifyTxcsrl, modifyRxcsrl, writePacket}
+use Rattle.regs.specs.Control.{csr0lRead}
+use Rattle.csr.specs.Control.{txcsrlOf, rxcsrlOf, txStored, rxStored, txcsrlSet, rxcsrlSet, dropped}
+use Rattle.store_list.specs.Stores.{listed}
+use Rattle.stores.specs.Stores.{noted, writeIndex, writeTxcsrl, writeRxcsrl, modifyTxcsrl, modifyRxcsrl, writePacket}
 use Rattle.events.specs.Events.{interrupting, waitingAt, arrived, collected, busReset, busResume, intrusbCleared, intrCleared}
-use Rattle.common_impl.specs.Common.{underRunCleared, overRunCleared, repaired, numbers, repairedBelow}
+use Rattle.overrun.specs.Common.{underRunCleared, overRunCleared, repaired, repairedBelow}
+use Rattle.laws.specs.Lists.{numbers}
 use Rattle.record.specs.Record.{freshRecord}
 use Rattle.peek.specs.Peek.{txPktRdy, rxPktRdy, rxCount}
-use Rattle.usb_device_write.specs.Write as write
-use Rattle.usb_device_read.specs.Read as read
+use Rattle.write_tests.specs.Write as write
+use Rattle.usb_device_write.specs.Write as write-write
+use Rattle.read_tests.specs.Read as read
+use Rattle.usb_device_read.specs.Read as read-read
 use Rattle.usb_device_interrupt.specs.Interrupt.{snapshotOf, cleared, busTaken, raisedIf, endpointTaken, endpointsTaken, taken}
-use Rattle.usb_device_poll.specs.Round.{endpointZero, acceptedBy, acceptStep, readyAt, drained, visit, walked, told}
+use Rattle.poll_zero.specs.Round.{endpointZero, acceptedBy, acceptStep}
+use Rattle.poll_walk.specs.Round.{readyAt, drained, visit, walked}
+use Rattle.usb_device_poll.specs.Round.{told}
 use Rattle.usb_device_poll.specs.Poll.{ended, walkedOn, acceptedOn, roundOut, pollLogged}
 use Rattle.host.specs.Host.{collectedFrom}
 use Rattle.rounds.specs.Machine.{Event, round, names, namesSent, isRound, after, falseNamings, arrivalsAbove}
@@ -69,7 +76,7 @@ record Computed : Type 0 where
   second : isRound (says (woken ++ poll ∷ [])) ≡ false
 
 computed : Computed
-unfolding bit raised clear bitsBelow setBits freshRegs sideAt withSide csr0lRead txcsrlOf rxcsrlOf txStored rxStored txcsrlSet rxcsrlSet dropped listed noted writeIndex writeTxcsrl writeRxcsrl modifyTxcsrl modifyRxcsrl writePacket interrupting waitingAt arrived collected busReset busResume intrusbCleared intrCleared underRunCleared overRunCleared repaired numbers repairedBelow freshRecord txPktRdy rxPktRdy rxCount write.ownTestsAt write.notWritable write.taken write.loaded write.sent write.sentOther read.ownTestsAt read.notReadable read.notSetup read.taken read.got read.readOther collectedFrom snapshotOf cleared busTaken raisedIf endpointTaken endpointsTaken taken endpointZero acceptedBy acceptStep readyAt drained visit walked told ended walkedOn acceptedOn roundOut pollLogged
+unfolding bit raised clear bitsBelow setBits freshRegs sideAt withSide csr0lRead txcsrlOf rxcsrlOf txStored rxStored txcsrlSet rxcsrlSet dropped listed noted writeIndex writeTxcsrl writeRxcsrl modifyTxcsrl modifyRxcsrl writePacket interrupting waitingAt arrived collected busReset busResume intrusbCleared intrCleared underRunCleared overRunCleared repaired numbers repairedBelow freshRecord txPktRdy rxPktRdy rxCount write.ownTestsAt write.notWritable write-write.taken write-write.loaded write-write.sent write-write.sentOther read.ownTestsAt read.notReadable read.notSetup read-read.taken read-read.got read-read.readOther collectedFrom snapshotOf cleared busTaken raisedIf endpointTaken endpointsTaken taken endpointZero acceptedBy acceptStep readyAt drained visit walked told ended walkedOn acceptedOn roundOut pollLogged
 computed =
     record {
       waits = record { arrived = tt; still = (tt, (tt, (tt, tt))); taken = tt; polled = tt };

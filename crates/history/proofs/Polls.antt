@@ -15,17 +15,19 @@ use Rattle.board.specs.declared.Direction.the-variants.{Out}
 use Rattle.board.specs.Boards.{rows, at-most-six, at-least-one}
 use Rattle.regs.specs.Registers.{sideAt}
 use Rattle.stores.specs.Stores.{Log, log}
-use Rattle.common_impl.specs.Common.{checkOverrun}
+use Rattle.overrun.specs.Common.{checkOverrun}
 use Rattle.record.specs.declared.Flags.{Flags}
 use Rattle.record.specs.declared.Record.{Record}
 use Rattle.record.specs.declared.Refusal.the-variants.{TooLittleLent}
 use Rattle.record.specs.declared.Entry.the-variants as entry
 use Rattle.record.specs.Record.{entryBy}
 use Rattle.record.proofs.Passing.{sound-record-passes}
-use Rattle.usb_device_poll.specs.Round.{withTx, withRx, endpointZero, acceptStep, walked, masks, told}
+use Rattle.poll_zero.specs.Round.{withTx, withRx, endpointZero, acceptStep}
+use Rattle.poll_walk.specs.Round.{walked}
+use Rattle.usb_device_poll.specs.Round.{masks, told}
 use Rattle.usb_device_poll.specs.declared.PollResult.the-variants.{None, Data}
 use Rattle.usb_device_poll.specs.Poll.{PollOutcome, ended, walkedOn, acceptedOn, roundOut, pollBy, pollLogged, pollServed, pollWhen, pollCall}
-use Rattle.usb_device_poll.proofs.Drained.{leftBy, none-new, ready-stays, false-naming}
+use Rattle.poll_walk.proofs.Drained.{leftBy, none-new, ready-stays, false-naming}
 use Rattle.rounds.specs.Machine.{Event, count, isAnsweredPoll}
 use Rattle.rounds.specs.Machine as rounds
 use Rattle.rounds.proofs.Lawful.{PutDown, Rounds, Pauses, Does, unchanged}

@@ -12,29 +12,33 @@ use lib.ListN.{length}
 use borrow.Author.Tests.{eq-eqb, ne-eqb}
 use Rattle.board.specs.Boards.{rows, at-most-six}
 use Rattle.board.specs.declared.Direction.the-variants.{Out}
-use Rattle.regs.specs.declared.Side.{Side}
+use Rattle.csr.specs.declared.Side.{Side}
 use Rattle.regs.specs.declared.Regs.{Regs}
-use Rattle.regs.specs.declared.control.Csr0l.{Csr0l}
-use Rattle.regs.specs.declared.control.Csr0lSet.the-variants.{ServicedSetupEnd}
-use Rattle.regs.specs.declared.control.TxcsrlSet.the-variants.{NoUnderRun}
-use Rattle.regs.specs.declared.control.RxcsrlSet.the-variants.{NoOverRun}
+use Rattle.csr.specs.declared.Csr0l.{Csr0l}
+use Rattle.csr.specs.declared.Csr0lSet.the-variants.{ServicedSetupEnd}
+use Rattle.csr.specs.declared.TxcsrlSet.the-variants.{NoUnderRun}
+use Rattle.csr.specs.declared.RxcsrlSet.the-variants.{NoOverRun}
 use Rattle.regs.specs.Registers.{Whole, sideAt, chosen, withIndex}
-use Rattle.regs.specs.Control.{csr0lRead, csr0lSet, count0, txcsrlRead, txcsrlSet, rxcsrlRead, rxcsrlOf, rxcsrlSet, rxStored}
-use Rattle.regs.specs.Sound.{SideOk}
+use Rattle.regs.specs.Control.{csr0lRead, count0, txcsrlRead, rxcsrlRead}
+use Rattle.csr.specs.Control.{csr0lSet, txcsrlSet, rxcsrlOf, rxcsrlSet, rxStored}
+use Rattle.csr.specs.Sound.{SideOk}
 use Rattle.regs.proofs.Sides.{by-eps}
-use Rattle.regs.proofs.Modified.{rx-repaired, zero-still-waits}
+use Rattle.csr.proofs.Modified.{rx-repaired}
+use Rattle.regs.proofs.Modified.{zero-still-waits}
 use Rattle.stores.specs.Stores.{Log, writeIndex, modifyCsr0l, modifyTxcsrl, modifyRxcsrl}
 use Rattle.stores.specs.Promise.{Store, index, csr0l, txcsrl, rxcsrl, does, leaves, selects}
 use Rattle.stores.proofs.Promises.{sides, rest, index-selects, modify-csr0l, modify-txcsrl, modify-rxcsrl}
-use Rattle.common_impl.specs.Common.{underRunCleared, overRunCleared, repaired, numbers, repairedBelow, checkOverrun}
+use Rattle.overrun.specs.Common.{underRunCleared, overRunCleared, repaired, repairedBelow, checkOverrun}
+use Rattle.laws.specs.Lists.{numbers}
 use Rattle.control_state.specs.declared.ControlState.{ControlState}
 use Rattle.control_state.specs.declared.ControlStateEnum.{ControlStateEnum}
 use Rattle.control_state.specs.declared.ControlStateEnum.the-variants.{Idle, Setup, DataIn, DataOut, Accepted, NodataPhase}
 use Rattle.record.specs.declared.Flags.{Flags}
 use Rattle.peek.specs.Peek.{rxPktRdy}
 use Rattle.peek.proofs.Readings.{rx-ready}
-use Rattle.usb_device_poll.specs.Round.{Round, round, withEp0, setupTaken, restarted, cutShort, receivedBy, zeroBy, zeroServed, endpointZero, readyAt, walked}
-use Rattle.usb_device_poll.proofs.Drained.{leftBy, walked-left}
+use Rattle.poll_zero.specs.Round.{Round, round, withEp0, setupTaken, restarted, cutShort, receivedBy, zeroBy, zeroServed, endpointZero}
+use Rattle.poll_walk.specs.Round.{readyAt, walked}
+use Rattle.poll_walk.proofs.Drained.{leftBy, walked-left}
 
 -- what endpoint 0's step stores to CSR0L
 abbrev setupEndServiced : Regs → Csr0l

@@ -16,15 +16,17 @@ use Rattle.regs.specs.declared.Regs.{Regs}
 use Rattle.regs.specs.Registers.{sideAt, withIndex}
 use Rattle.stores.specs.Stores.{log}
 use Rattle.events.specs.Events as events
-use Rattle.common_impl.specs.Common.{repairedBelow, checkOverrun}
+use Rattle.overrun.specs.Common.{repairedBelow, checkOverrun}
 use Rattle.record.specs.declared.Record.{Record}
 use Rattle.record.specs.declared.Entry.{Entry}
 use Rattle.record.specs.declared.Entry.the-variants.{Clear, Refused}
 use Rattle.record.specs.Record.{freshRecord, recordSound, entryBy, areaOf, needOf, endpointsOf}
 use Rattle.record.proofs.Passing.{sound-record-passes}
 use Rattle.peek.specs.Peek.{short, txPktRdy}
-use Rattle.usb_device_write.specs.Write as write
-use Rattle.usb_device_read.specs.Read as read
+use Rattle.write_tests.specs.Write as write
+use Rattle.usb_device_write.specs.Write as write-write
+use Rattle.read_tests.specs.Read as read
+use Rattle.usb_device_read.specs.Read as read-read
 use Rattle.usb_device_interrupt.specs.Interrupt.{snapshotOf, cleared, taken, interrupted, interruptBy, interruptCall}
 use Rattle.usb_device_poll.specs.Poll.{PollOutcome, pollLogged, pollServed, pollWhen, pollCall}
 use Rattle.host.specs.Host as host
@@ -91,11 +93,11 @@ module _ (t : List Row) (passes : Bool) (k : Record) where
       (record { event = host.done k (events.arrived (k .regs) e (length packet)); fifo = pasted fifo (areaAt t e Out .start) packet })
 
   abbrev takeIn : ℕ → Record
-  takeIn e = read.readBy (read.testsBy (bothIn e) (read.ownTestsAt k e (length buffer))) k e fifo list buffer .result .«record»
+  takeIn e = read-read.readBy (read.testsBy (bothIn e) (read.ownTestsAt k e (length buffer))) k e fifo list buffer .result .«record»
 
   abbrev putIn : ℕ → Record
   putIn e =
-      write.writeBy
+      write-write.writeBy
       (write.testsBy (bothIn e) (write.ownTests (txPktRdy e (withIndex (k .regs) e)) (ltb (areaAt t e In .size) (length packet)) (write.notWritable k e (length packet))))
       k e packet fifo list .result .«record»
 
@@ -137,7 +139,7 @@ irq-in k true = refl
 irq-in k false = refl
 
 step-in : (k : Record) (o : Do) → step k (op o) ≡ stepIn (rows (k .regs .board)) (recordSound k) k o
-unfolding host.arrivalCall host.arrivalRefusal read.readCall read.tests write.writeCall write.tests write.ownTestsAt write.tooLong host.collectionCall host.collectionRefusal host.busResetCall host.resumeCall interruptCall pollCall areaOf needOf endpointsOf short
+unfolding host.arrivalCall host.arrivalRefusal read-read.readCall read.tests write-write.writeCall write.tests write.ownTestsAt write.tooLong host.collectionCall host.collectionRefusal host.busResetCall host.resumeCall interruptCall pollCall areaOf needOf endpointsOf short
 step-in k (arrive e) = refl
 step-in k (take e) = refl
 step-in k (put e) = refl

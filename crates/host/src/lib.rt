@@ -9,15 +9,11 @@ use record::Refusal;
 use regs::Regs;
 ghost use mathlib.Core.Path.{_≡_};
 ghost use mathlib.Core.Bool.{false};
-ghost use Prim.Native.Nat.{_+_, _≤_, _<_};
-ghost use lib.Dec.{ltb};
+ghost use Prim.Native.Nat.{_≤_, _<_};
 ghost use lib.ListN.{length};
-ghost use Rattle.laws.specs.Lists.{pasted};
-ghost use Rattle.board.specs.declared.Direction.the-variants.{Out, In};
-ghost use Rattle.regs.specs.Registers.{sideAt};
-ghost use Rattle.events.specs.Events.{arrived, busReset, busSuspend, busResume, setupEnded};
+ghost use Rattle.board.specs.declared.Direction.the-variants.{Out};
 ghost use Rattle.record.specs.declared.Entry.the-variants.{Clear};
-ghost use Rattle.record.specs.Record.{recordSound, entryBy, areaOf, needOf, withRegs};
+ghost use Rattle.record.specs.Record.{areaOf, needOf, withRegs};
 ghost use Rattle.host.specs.Host.{refused, done, missRefusal, entryAt, Admitted, InBuffer, arrivalRefusal, arrivalCall, collectionRefusal, collectedFrom, collectionCall, busResetCall, suspendCall, resumeCall, setupEndCall, missCall, underrunCall, overrunCall, happenedNumber, takenNumber};
 
 // The answer of an event that gives no value.

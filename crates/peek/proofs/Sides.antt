@@ -9,10 +9,11 @@ use lib.Dec.{leb}
 use lib.ListN.{length}
 use Rattle.board.specs.declared.Direction.{Direction}
 use Rattle.board.specs.Boards.{rows, at-most-six}
-use Rattle.regs.specs.declared.Side.{Side}
+use Rattle.csr.specs.declared.Side.{Side}
 use Rattle.regs.specs.declared.Regs.{Regs}
 use Rattle.regs.specs.Registers.{Whole, withIndex, sideAt, withSide}
-use Rattle.stores.specs.Stores.{Log, log, selectListed, writeIndex, OnSide}
+use Rattle.stores.specs.Stores.{Log, log, writeIndex, OnSide}
+use Rattle.store_list.specs.Stores.{selectListed}
 use Rattle.stores.proofs.Promises.{index-halves}
 use Rattle.stores.proofs.OnSides.{put-once}
 use Rattle.record.specs.declared.Record.{Record}

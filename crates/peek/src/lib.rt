@@ -1,10 +1,9 @@
 // What `write` and `read` have to know before their first store, because a refused call stores nothing: whether enough is lent, and what the
 // registers of an endpoint read once it is selected, while nothing is selected and nothing listed.
 use board::Direction;
+use csr::Side;
 use record::Record;
 use regs::Regs;
-use regs::Side;
-use regs::control;
 ghost use mathlib.Core.Path.{_≡_};
 ghost use Rattle.regs.specs.Registers.{Whole, withIndex, sideAt};
 ghost use Rattle.peek.specs.Peek.{short, txPktRdy, rxPktRdy, rxCount};
@@ -20,10 +19,10 @@ pub fn tx_pkt_rdy(r: Regs, e: u8) -> bool
 {
     let s = stores::select(r, e);
     if e == 0 {
-        let w = control::read_csr0l(s);
+        let w = regs::read_csr0l(s);
         return w.tx_pkt_rdy;
     }
-    let w = control::read_txcsrl(s);
+    let w = regs::read_txcsrl(s);
     w.tx_pkt_rdy
 }
 
@@ -32,10 +31,10 @@ pub fn rx_pkt_rdy(r: Regs, e: u8) -> bool
 {
     let s = stores::select(r, e);
     if e == 0 {
-        let w = control::read_csr0l(s);
+        let w = regs::read_csr0l(s);
         return w.rx_pkt_rdy;
     }
-    let w = control::read_rxcsrl(s);
+    let w = regs::read_rxcsrl(s);
     w.rx_pkt_rdy
 }
 
@@ -44,9 +43,9 @@ pub fn rx_count(r: Regs, e: u8) -> u16
 {
     let s = stores::select(r, e);
     if e == 0 {
-        return control::read_count0(s);
+        return regs::read_count0(s);
     }
-    control::read_rxcount(s)
+    regs::read_rxcount(s)
 }
 
 // The side of an endpoint, for the stores that change it alone; and that all six endpoints are there.

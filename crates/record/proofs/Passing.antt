@@ -11,7 +11,8 @@ use Rattle.board.specs.declared.Direction.{Direction}
 use Rattle.board.specs.Boards.{at-least-one}
 use Rattle.regs.specs.Registers.{sideAt}
 use Rattle.regs.proofs.Sides.{fresh-side, fresh-rest}
-use Rattle.regs.proofs.Soundness.{is-sound, sound-passes, none-ok}
+use Rattle.regs.proofs.Soundness.{is-sound, sound-passes}
+use Rattle.csr.proofs.Soundness.{none-ok}
 use Rattle.record.specs.declared.Record.{Record}
 use Rattle.record.specs.Record.{freshRecord, areaOf, sizesOf, flagsSound, recordSound, SoundRecord}
 use Rattle.record.proofs.Areas.{size-at}

@@ -14,10 +14,10 @@ use Rattle.board.specs.Table.{areaAt, total}
 use Rattle.board.specs.Boards.{rows}
 use Rattle.regs.specs.Registers.{freshRegs}
 use Rattle.regs.specs.Sound.{regsSound, Sound}
-use Rattle.alloc_endpoint.specs.Endpoints.{fresh}
+use Rattle.endpoints.specs.Endpoints.{fresh}
 use Rattle.control_state.specs.Control.{idle}
 use Rattle.regs.specs.declared.Regs.{Regs}
-use Rattle.alloc_endpoint.specs.declared.EndpointData.{EndpointData}
+use Rattle.endpoints.specs.declared.EndpointData.{EndpointData}
 use Rattle.control_state.specs.declared.ControlState.{ControlState}
 use Rattle.record.specs.declared.Flags.{Flags}
 use Rattle.record.specs.declared.Refusal.{Refusal}

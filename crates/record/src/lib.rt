@@ -1,10 +1,10 @@
 // The whole record: registers, endpoints, control state and interrupt flags. It takes the place of the source's `UsbdBus` and of its
 // statics, and goes in and out of every call by value.
-use alloc_endpoint::EndpointData;
 use board::Board;
 use board::Direction;
 use board::Span;
 use control_state::ControlState;
+use endpoints::EndpointData;
 use regs::Regs;
 ghost use mathlib.Core.Path.{_≡_};
 ghost use Prim.Native.Nat.{_+_, _≤_, _<_};
@@ -82,7 +82,7 @@ pub fn fresh(b: Board) -> Record
     ensures { λ k. ⌜ k ≡ freshRecord b ⌝ }
 {
     let r = regs::fresh(b);
-    let e = alloc_endpoint::fresh_endpoint();
+    let e = endpoints::fresh_endpoint();
     let c = ControlState::new();
     Record {
         regs: r,
@@ -161,7 +161,7 @@ pub fn sound(k: Record) -> bool
     let b = r.board;
     let f = k.irq;
     let s = sizes(k);
-    regs::sound::sound(r, s) & flags_sound(b, f)
+    regs::sound(r, s) & flags_sound(b, f)
 }
 
 // The three tests that come first in every call, in their order: 15, 16, 8.

@@ -1,4 +1,4 @@
--- Document 01's sentences about the control registers, each as a law over the definitions. The sentence stands above its laws.
+-- Document 01's sentences about CSR0L, CSR0H and the counts, each as a law over the definitions. The sentence stands above its laws.
 -- Assumes nothing.
 use Prim.Native.Nat.{ℕ}
 use mathlib.Core.Path.{_≡_, refl, _∙_}
@@ -6,104 +6,21 @@ use mathlib.Core.Bool.{Bool, true, false}
 use mathlib.Core.List.{List}
 use native.Mathlib.Omega.{arith}
 use lib.ListN.{length, length-set}
-use Rattle.laws.proofs.Tests.{and-zero, and-one, or-zero, or-one}
+use Rattle.laws.proofs.Tests.{and-zero, and-one}
 use Rattle.board.specs.declared.Direction.{Direction}
 use Rattle.board.specs.declared.Direction.the-variants.{Out, In}
-use Rattle.regs.specs.declared.Side.{Side}
 use Rattle.regs.specs.declared.Regs.{Regs}
-use Rattle.regs.specs.declared.control.Csr0l.{Csr0l}
-use Rattle.regs.specs.declared.control.Txcsrl.{Txcsrl}
-use Rattle.regs.specs.declared.control.Rxcsrl.{Rxcsrl}
+use Rattle.csr.specs.declared.Csr0l.{Csr0l}
 use Rattle.regs.specs.Registers.{Whole, sideAt, withSide, withSetupend}
-use Rattle.regs.specs.Control.{txStored, rxStored, zeroTxStored, dropped, csr0lStored, csr0hFlushed, csr0lRead, txcsrlOf, rxcsrlOf, rxcsrlRead, count0, rxcount}
+use Rattle.csr.specs.Control.{zeroTxStored, dropped, rxcsrlOf}
+use Rattle.regs.specs.Control.{csr0lStored, csr0hFlushed, csr0lRead, rxcsrlRead, count0, rxcount}
 use Rattle.regs.specs.Sound.{Sound}
 use Rattle.regs.proofs.Sides.{side-same, side-other, side-flip, keeps-length}
-
-in-out : In ≡ Out → ⊥
-in-out p = let z : _≡_ {A = ℕ} 0 1 = cc in omega arith
+use Rattle.csr.proofs.AsWritten.{in-out}
 
 setupend-keeps : (q : Regs) (b : Bool) (e : ℕ) (d : Direction) → sideAt (withSetupend q b) e d ≡ sideAt q e d
 unfolding sideAt
 setupend-keeps q b e d = refl
-
--- "SendStall takes the written bit."
-pub tx-stall : (w : Txcsrl) (s : Side) → txStored w s .stall ≡ w .«send_stall»
-unfolding txStored
-tx-stall w s = refl
-
-pub rx-stall : (w : Rxcsrl) (s : Side) → rxStored w s .stall ≡ w .«send_stall»
-unfolding rxStored
-rx-stall w s = refl
-
-pub zero-stall : (w : Csr0l) (s : Side) → zeroTxStored w s .stall ≡ w .«send_stall»
-unfolding zeroTxStored
-zero-stall w s = refl
-
--- "SentStall, UnderRun, OverRun, and RxPktRdy of endpoints 1 to 5, are cleared by a written 0; a written 1 changes nothing."
-module _ (w : Txcsrl) (s : Side) where
-  pub sent-cleared : w .«sent_stall» ≡ false → txStored w s .stalled ≡ false
-  unfolding txStored
-  sent-cleared e = rw e (and-zero (s .stalled))
-
-  pub sent-kept : w .«sent_stall» ≡ true → txStored w s .stalled ≡ s .stalled
-  unfolding txStored
-  sent-kept e = rw e (and-one (s .stalled))
-
-  pub underrun-cleared : w .«under_run» ≡ false → txStored w s .missed ≡ false
-  unfolding txStored
-  underrun-cleared e = rw e (and-zero (s .missed))
-
-  pub underrun-kept : w .«under_run» ≡ true → txStored w s .missed ≡ s .missed
-  unfolding txStored
-  underrun-kept e = rw e (and-one (s .missed))
-
-  -- "A written 1 sets TxPktRdy; a written 0 changes nothing."
-  pub ready-set : w .«flush_fifo» ≡ false → w .«tx_pkt_rdy» ≡ true → txStored w s .ready ≡ true
-  unfolding txStored
-  ready-set f e = rw (f, e) (or-one (s .ready))
-
-  pub ready-kept : w .«flush_fifo» ≡ false → w .«tx_pkt_rdy» ≡ false → txStored w s .ready ≡ s .ready
-  unfolding txStored
-  ready-kept f e = rw (f, e) (or-zero (s .ready))
-
-  pub packet-kept : w .«flush_fifo» ≡ false → txStored w s .len ≡ s .len
-  unfolding txStored
-  packet-kept f = rw f
-
-  -- "Flush drops that side's packet and ready bit and wins over the rest of the same store"
-  pub flushed : w .«flush_fifo» ≡ true → (txStored w s .ready ≡ false) × (txStored w s .len ≡ 0)
-  unfolding txStored
-  flushed f = (rw f, rw f)
-
-module _ (w : Rxcsrl) (s : Side) where
-  pub rx-sent-cleared : w .«sent_stall» ≡ false → rxStored w s .stalled ≡ false
-  unfolding rxStored
-  rx-sent-cleared e = rw e (and-zero (s .stalled))
-
-  pub rx-sent-kept : w .«sent_stall» ≡ true → rxStored w s .stalled ≡ s .stalled
-  unfolding rxStored
-  rx-sent-kept e = rw e (and-one (s .stalled))
-
-  pub overrun-cleared : w .«over_run» ≡ false → rxStored w s .missed ≡ false
-  unfolding rxStored
-  overrun-cleared e = rw e (and-zero (s .missed))
-
-  pub overrun-kept : w .«over_run» ≡ true → rxStored w s .missed ≡ s .missed
-  unfolding rxStored
-  overrun-kept e = rw e (and-one (s .missed))
-
-  -- "Clearing RxPktRdy drops the packet. A drop makes its length 0 and leaves the bytes": no store to a control register has the bytes
-  pub rx-cleared : w .«rx_pkt_rdy» ≡ false → (rxStored w s .ready ≡ false) × (rxStored w s .len ≡ 0)
-  unfolding rxStored
-  rx-cleared e = (rw (e, or-one (w .«flush_fifo»), and-zero (s .ready)), rw (e, or-one (w .«flush_fifo»)))
-
-  pub rx-kept : w .«flush_fifo» ≡ false → w .«rx_pkt_rdy» ≡ true → (rxStored w s .ready ≡ s .ready) × (rxStored w s .len ≡ s .len)
-  unfolding rxStored
-  rx-kept f e = (rw (f, e, and-one (s .ready)), rw (f, e))
-
-  pub rx-flushed : w .«flush_fifo» ≡ true → (rxStored w s .ready ≡ false) × (rxStored w s .len ≡ 0)
-  unfolding rxStored
-  rx-flushed f = (rw (f, and-zero (s .ready)), rw f)
 
 -- what a store to CSR0L and a flush by CSR0H leave on endpoint 0's two sides
 module _ (w : Csr0l) (r : Regs) (six : Whole r) where
@@ -164,24 +81,6 @@ pub flush-out : (r : Regs) → Whole r → sideAt (csr0hFlushed r) 0 Out ≡ dro
 unfolding csr0hFlushed
 flush-out r six =
     side-same (withSide r 0 In (dropped true (sideAt r 0 In))) 0 Out _ (omega (arith, keeps-length r 0 In (dropped true (sideAt r 0 In))))
-
-pub drops : (s : Side) → (dropped true s .ready ≡ false) × (dropped true s .len ≡ 0)
-unfolding dropped
-drops s = (and-zero (s .ready), refl)
-
--- "FIFONotEmpty reads as TxPktRdy. FIFOFull and DataError read 0." "DataEnd, Serviced, Flush and ClrDataTog read 0."
-pub not-empty : (s : Side) → txcsrlOf s .«fifo_not_empty» ≡ txcsrlOf s .«tx_pkt_rdy»
-unfolding txcsrlOf
-not-empty s = refl
-
-pub tx-read-zero : (s : Side) → (txcsrlOf s .«flush_fifo» ≡ false) × (txcsrlOf s .«clr_data_tog» ≡ false)
-unfolding txcsrlOf
-tx-read-zero s = (refl, refl)
-
-pub rx-read-zero : (s : Side)
-    → (rxcsrlOf s .«fifo_full» ≡ false) × (rxcsrlOf s .«data_error» ≡ false) × (rxcsrlOf s .«flush_fifo» ≡ false) × (rxcsrlOf s .«clr_data_tog» ≡ false)
-unfolding rxcsrlOf
-rx-read-zero s = (refl, refl, refl, refl)
 
 pub zero-read-zero : (r : Regs)
     → (csr0lRead r .«data_end» ≡ false) × (csr0lRead r .«serviced_rx_pkt_rdy» ≡ false) × (csr0lRead r .«serviced_setup_end» ≡ false)

@@ -3,4 +3,3 @@ pub mod Modified
 pub mod Sides
 pub mod Readings
 pub mod Soundness
-pub mod Tame

@@ -6,7 +6,8 @@ use Rattle.board.specs.declared.Direction.{Direction}
 use Rattle.board.specs.declared.Direction.the-variants.{Out, In}
 use Rattle.regs.specs.declared.Regs.{Regs}
 use Rattle.regs.specs.Registers.{sideAt, withIndex, chosen}
-use Rattle.regs.specs.Control.{csr0lRead, txcsrlOf, txcsrlRead, rxcsrlOf, rxcsrlRead, count0, rxcount}
+use Rattle.regs.specs.Control.{csr0lRead, txcsrlRead, rxcsrlRead, count0, rxcount}
+use Rattle.csr.specs.Control.{txcsrlOf, rxcsrlOf}
 use Rattle.regs.proofs.Sides.{by-eps}
 
 module _ (r : Regs) where

@@ -14,10 +14,12 @@ use lib.Seq.{set-out, getD-set-same, getD-set-other}
 use Rattle.board.specs.declared.Board.{Board}
 use Rattle.board.specs.declared.Direction.{Direction}
 use Rattle.board.specs.declared.Direction.the-variants.{Out, In}
-use Rattle.regs.specs.declared.Side.{Side}
+use Rattle.csr.specs.declared.Side.{Side}
 use Rattle.regs.specs.declared.Ep.{Ep}
 use Rattle.regs.specs.declared.Regs.{Regs}
-use Rattle.regs.specs.Registers.{noSide, noEp, noPending, freshRegs, Whole, sideOf, putSide, towards, withEps, sideAt, withSide}
+use Rattle.csr.specs.Registers.{noSide, towards}
+use Rattle.regs.specs.Registers.{noEp, noPending, freshRegs, Whole, sideOf, putSide, withEps, sideAt, withSide}
+use Rattle.csr.proofs.Sides.{same-direction}
 
 -- past the last endpoint nothing is there
 none-there : (d : Direction) → sideOf noEp d ≡ noSide
@@ -52,12 +54,6 @@ put-flip x Out Out s n = absurd (n refl)
 put-flip x Out In s n = refl
 put-flip x In Out s n = refl
 put-flip x In In s n = absurd (n refl)
-
-pub same-direction : (c d : Direction) → Dec (c ≡ d)
-same-direction Out Out = yes refl
-same-direction Out In = no (λ (p : Out ≡ In). let z : _≡_ {A = ℕ} 0 1 = cc in omega arith)
-same-direction In Out = no (λ (p : In ≡ Out). let z : _≡_ {A = ℕ} 0 1 = cc in omega arith)
-same-direction In In = yes refl
 
 module _ (r : Regs) (e : ℕ) (d : Direction) (s : Side) where
   -- the side that was changed

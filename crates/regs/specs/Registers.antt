@@ -2,22 +2,18 @@
 -- Assumes nothing.
 use Prim.Native.Nat.{ℕ}
 use mathlib.Core.Path.{_≡_}
-use mathlib.Core.Bool.{Bool, true, false}
+use mathlib.Core.Bool.{Bool, false}
 use mathlib.Core.List.{List}
 use lib.ListN.{length, getD, set, replicate}
 use Rattle.board.specs.declared.Board.{Board}
 use Rattle.board.specs.declared.Direction.{Direction}
 use Rattle.board.specs.declared.Direction.the-variants.{Out, In}
-use Rattle.regs.specs.declared.Side.{Side}
+use Rattle.csr.specs.declared.Side.{Side}
 use Rattle.regs.specs.declared.Ep.{Ep}
-use Rattle.regs.specs.declared.Intrusb.{Intrusb}
 use Rattle.regs.specs.declared.Pending.{Pending}
 use Rattle.regs.specs.declared.Enable.{Enable}
 use Rattle.regs.specs.declared.Regs.{Regs}
-
--- document 01: "A fresh record: registers 0, nothing waiting"
-abbrev pub noSide : Side
-noSide = record { ready = false; missed = false; stall = false; stalled = false; iso = false; maxp = 0; len = 0 }
+use Rattle.csr.specs.Registers.{noSide}
 
 abbrev pub noEp : Ep
 noEp = record { tx = noSide; rx = noSide }
@@ -45,23 +41,6 @@ sideOf e In = e .tx
 abbrev pub putSide : Ep → Direction → Side → Ep
 putSide e Out s = record { tx = e .tx; rx = s }
 putSide e In s = record { tx = s; rx = e .rx }
-
--- a side with one part changed
-abbrev pub withIso : Side → Side
-withIso s = record { ready = s .ready; missed = s .missed; stall = s .stall; stalled = s .stalled; iso = true; maxp = s .maxp; len = s .len }
-
-abbrev pub withMaxp : ℕ → Side → Side
-withMaxp n s = record { ready = s .ready; missed = s .missed; stall = s .stall; stalled = s .stalled; iso = s .iso; maxp = n; len = s .len }
-
-abbrev pub withLen : ℕ → Side → Side
-withLen n s = record { ready = s .ready; missed = s .missed; stall = s .stall; stalled = s .stalled; iso = s .iso; maxp = s .maxp; len = n }
-
--- a side of direction d is changed by what concerns direction c, where the two are one
-abbrev pub towards : Direction → Direction → (Side → Side) → Side → Side
-towards Out Out f s = f s
-towards Out In f s = s
-towards In Out f s = s
-towards In In f s = f s
 
 -- an enable register of a direction
 abbrev pub enabledOf : Direction → Enable → ℕ

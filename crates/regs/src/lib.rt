@@ -3,30 +3,16 @@
 // The driver above knows this crate by its contracts and its exported laws alone.
 use board::Board;
 use board::Direction;
+use csr::Csr0l;
+use csr::Rxcsrl;
+use csr::Side;
+use csr::Txcsrl;
 ghost use mathlib.Core.Path.{_≡_};
 ghost use mathlib.Core.Bool.{_||_};
-ghost use Rattle.regs.specs.Registers.{freshRegs, sideOf, putSide, noSide, sideAt, withSide};
-
-pub mod control;
-pub mod sound;
-
-// One direction of an endpoint. In Rust's words In is TX and Out is RX.
-// Endpoint 0's SendStall and SentStall stand in its transmit side.
-pub struct Side {
-    // TxPktRdy or RxPktRdy
-    pub ready: bool,
-    // UnderRun or OverRun
-    pub missed: bool,
-    // SendStall
-    pub stall: bool,
-    // SentStall
-    pub stalled: bool,
-    // bit 6 of TXCSRH or RXCSRH, all else of which reads 0
-    pub iso: bool,
-    pub maxp: u16,
-    // the waiting packet's length
-    pub len: u16,
-}
+ghost use Rattle.regs.specs.Registers.{freshRegs, sideOf, putSide, sideAt, withSide};
+ghost use Prim.Native.Nat.{_<_};
+ghost use Rattle.regs.specs.Control.{csr0lRead, txcsrlRead, rxcsrlRead, count0, rxcount, csr0lStored, csr0hFlushed};
+ghost use Rattle.regs.specs.Sound.{epSound, sidesSound, regsSound};
 
 pub struct Ep {
     pub tx: Side,
@@ -66,25 +52,11 @@ pub struct Regs {
     pub eps: [Ep; 6],
 }
 
-fn no_side() -> Side
-    ensures { λ s. ⌜ s ≡ noSide ⌝ }
-{
-    Side {
-        ready: false,
-        missed: false,
-        stall: false,
-        stalled: false,
-        iso: false,
-        maxp: 0,
-        len: 0,
-    }
-}
-
 // Registers 0, nothing waiting.
 pub fn fresh(b: Board) -> Regs
     ensures { λ r. ⌜ r ≡ freshRegs b ⌝ }
 {
-    let s = no_side();
+    let s = csr::no_side();
     let e = Ep { tx: s, rx: s };
     Regs {
         board: b,
@@ -159,7 +131,7 @@ pub fn side_at(r: Regs, e: u8, d: Direction) -> Side
     if i < 6 {
         return side_of(r.eps[i], d);
     }
-    no_side()
+    csr::no_side()
 }
 
 // The registers with another state of a side. Past the last endpoint nothing changes.
@@ -174,4 +146,117 @@ pub fn with_side(r: Regs, e: u8, d: Direction, s: Side) -> Regs
         return o;
     }
     r
+}
+
+pub fn read_csr0l(r: Regs) -> Csr0l
+    ensures { λ w. ⌜ w ≡ csr0lRead r ⌝ }
+{
+    let tx = side_at(r, 0, Direction::In);
+    let rx = side_at(r, 0, Direction::Out);
+    Csr0l {
+        rx_pkt_rdy: rx.ready,
+        tx_pkt_rdy: tx.ready,
+        sent_stall: tx.stalled,
+        data_end: false,
+        setup_end: r.setupend,
+        send_stall: tx.stall,
+        serviced_rx_pkt_rdy: false,
+        serviced_setup_end: false,
+    }
+}
+
+pub fn read_txcsrl(r: Regs) -> Txcsrl
+    ensures { λ w. ⌜ w ≡ txcsrlRead r ⌝ }
+{
+    let s = side_at(r, r.index, Direction::In);
+    Txcsrl {
+        tx_pkt_rdy: s.ready,
+        fifo_not_empty: s.ready,
+        under_run: s.missed,
+        flush_fifo: false,
+        send_stall: s.stall,
+        sent_stall: s.stalled,
+        clr_data_tog: false,
+    }
+}
+
+pub fn read_rxcsrl(r: Regs) -> Rxcsrl
+    ensures { λ w. ⌜ w ≡ rxcsrlRead r ⌝ }
+{
+    let s = side_at(r, r.index, Direction::Out);
+    Rxcsrl {
+        rx_pkt_rdy: s.ready,
+        fifo_full: false,
+        over_run: s.missed,
+        data_error: false,
+        flush_fifo: false,
+        send_stall: s.stall,
+        sent_stall: s.stalled,
+        clr_data_tog: false,
+    }
+}
+
+pub fn read_count0(r: Regs) -> u16
+    ensures { λ n. ⌜ n ≡ count0 r ⌝ }
+{
+    let s = side_at(r, 0, Direction::Out);
+    s.len
+}
+
+pub fn read_rxcount(r: Regs) -> u16
+    ensures { λ n. ⌜ n ≡ rxcount r ⌝ }
+{
+    let s = side_at(r, r.index, Direction::Out);
+    s.len
+}
+
+pub fn csr0l_stored(w: Csr0l, r: Regs) -> Regs
+    ensures { λ o. ⌜ o ≡ csr0lStored w r ⌝ }
+{
+    let tx = csr::zero_tx_stored(w, side_at(r, 0, Direction::In));
+    let rx = csr::drop_packet(w.serviced_rx_pkt_rdy, side_at(r, 0, Direction::Out));
+    let ended = r.setupend & !w.serviced_setup_end;
+    let half = with_side(r, 0, Direction::In, tx);
+    let mut o = with_side(half, 0, Direction::Out, rx);
+    o.setupend = ended;
+    o
+}
+
+pub fn csr0h_flushed(r: Regs) -> Regs
+    ensures { λ o. ⌜ o ≡ csr0hFlushed r ⌝ }
+{
+    let tx = csr::drop_packet(true, side_at(r, 0, Direction::In));
+    let rx = csr::drop_packet(true, side_at(r, 0, Direction::Out));
+    let half = with_side(r, 0, Direction::In, tx);
+    with_side(half, 0, Direction::Out, rx)
+}
+
+fn ep_sound(tx: u16, rx: u16, e: Ep) -> bool
+    ensures { λ b. ⌜ b ≡ epSound tx rx e ⌝ }
+{
+    csr::side_sound(tx, e.tx) & csr::side_sound(rx, e.rx)
+}
+
+fn sides_sound(sizes: [u16; 12], eps: [Ep; 6]) -> bool
+    ensures { λ b. ⌜ b ≡ sidesSound sizes eps ⌝ }
+{
+    let mut i = 0usize;
+    while i < 6 {
+        let tx = sizes[2 * i];
+        let rx = sizes[2 * i + 1];
+        if !ep_sound(tx, rx, eps[i]) {
+            return false;
+        }
+        i += 1;
+    }
+    true
+}
+
+// The sizes stand in the order of the areas.
+pub fn sound(r: Regs, sizes: [u16; 12]) -> bool
+    ensures { λ b. ⌜ b ≡ regsSound sizes r ⌝ }
+{
+    let b = r.board;
+    let eps = r.eps;
+    (r.index < board::endpoints(b)) & (r.faddr <= 127) & sides_sound(sizes, eps)
 }

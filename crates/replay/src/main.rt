@@ -29,7 +29,7 @@ fn put_many(s: &[u8], detail: bool)
     while at + 4 <= s.len() {
         let start = at + 4;
         let n = reporter::least(length_at(s, at), s.len() - start);
-        reporter::put_report(&s[start..start + n], detail);
+        reporter::put_fresh(&s[start..start + n], detail);
         at = start + n;
     }
 }
@@ -45,7 +45,7 @@ fn put_by(mark: u8, s: &[u8])
         put_many(s, true);
         return;
     }
-    reporter::put_report(s, false);
+    reporter::put_fresh(s, false);
 }
 
 // Where the name begins.

@@ -8,14 +8,16 @@ use borrow.Author.Tests.{eq-eqb, ne-eqb}
 use lib.Dec.{eqb}
 use Rattle.board.specs.declared.Direction.{Direction}
 use Rattle.board.specs.declared.Direction.the-variants.{Out, In}
-use Rattle.regs.specs.declared.Side.{Side}
+use Rattle.csr.specs.declared.Side.{Side}
 use Rattle.regs.specs.declared.Regs.{Regs}
-use Rattle.regs.specs.declared.control.TxcsrlSet.{TxcsrlSet}
-use Rattle.regs.specs.declared.control.RxcsrlSet.{RxcsrlSet}
-use Rattle.regs.specs.Registers.{Whole, sideAt, chosen, towards, withIso, withMaxp, withLen}
-use Rattle.regs.specs.Control.{txStored, rxStored, txcsrlRead, txcsrlSet, rxcsrlRead, rxcsrlSet}
-use Rattle.regs.proofs.Modified.{txcsrl-stall, rxcsrl-stall}
-use Rattle.regs.proofs.AsWritten.{tx-stall, rx-stall}
+use Rattle.csr.specs.declared.TxcsrlSet.{TxcsrlSet}
+use Rattle.csr.specs.declared.RxcsrlSet.{RxcsrlSet}
+use Rattle.regs.specs.Registers.{Whole, sideAt, chosen}
+use Rattle.csr.specs.Registers.{towards, withIso, withMaxp, withLen}
+use Rattle.csr.specs.Control.{txStored, rxStored, txcsrlSet, rxcsrlSet}
+use Rattle.regs.specs.Control.{txcsrlRead, rxcsrlRead}
+use Rattle.csr.proofs.Modified.{txcsrl-stall, rxcsrl-stall}
+use Rattle.csr.proofs.AsWritten.{tx-stall, rx-stall}
 use Rattle.stores.specs.Stores.{Log}
 use Rattle.stores.specs.Promise.{Store, faddr, power, index, csr0l, csr0h, txcsrl, rxcsrl, iso, maxp, intrusbe, intre, packet, does, leaves, SameHalts}
 use Rattle.stores.proofs.Promises.{sides}

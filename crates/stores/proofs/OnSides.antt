@@ -9,15 +9,17 @@ use lib.ListN.{getD, set}
 use lib.Seq.{getD-set-same, set-getD, set-set}
 use Rattle.board.specs.declared.Direction.{Direction}
 use Rattle.board.specs.declared.Direction.the-variants.{Out, In}
-use Rattle.regs.specs.declared.Side.{Side}
+use Rattle.csr.specs.declared.Side.{Side}
 use Rattle.regs.specs.declared.Ep.{Ep}
 use Rattle.regs.specs.declared.Regs.{Regs}
-use Rattle.regs.specs.declared.control.Txcsrl.{Txcsrl}
-use Rattle.regs.specs.declared.control.TxcsrlSet.{TxcsrlSet}
-use Rattle.regs.specs.Registers.{noEp, sideOf, putSide, withEps, Whole, sideAt, withSide, chosen, withChosen, withLen}
-use Rattle.regs.specs.Control.{txcsrlNumber, txcsrlOf, txStored, txcsrlSet}
+use Rattle.csr.specs.declared.Txcsrl.{Txcsrl}
+use Rattle.csr.specs.declared.TxcsrlSet.{TxcsrlSet}
+use Rattle.regs.specs.Registers.{noEp, sideOf, putSide, withEps, Whole, sideAt, withSide, chosen, withChosen}
+use Rattle.csr.specs.Registers.{withLen}
+use Rattle.csr.specs.Control.{txcsrlNumber, txcsrlOf, txStored, txcsrlSet}
 use Rattle.regs.proofs.Sides.{side-same, keeps-index}
-use Rattle.stores.specs.Stores.{Log, log, listed, noted, TXCSRL, FIFO, writeTxcsrl, modifyTxcsrl, writePacket, OnSide}
+use Rattle.stores.specs.Stores.{Log, log, noted, writeTxcsrl, modifyTxcsrl, writePacket, OnSide}
+use Rattle.store_list.specs.Stores.{listed, TXCSRL, FIFO}
 
 -- a side put back as it was
 put-back : (x : Ep) (d : Direction) → putSide x d (sideOf x d) ≡ x

@@ -1,13 +1,15 @@
 -- The registers that no side holds, and the list, after every store. Assumes nothing.
 use Prim.Native.Nat.{ℕ}
 use mathlib.Core.Path.{_≡_, refl}
-use mathlib.Core.Bool.{Bool, true, false, not, cond}
+use mathlib.Core.Bool.{Bool, true, false, cond}
 use native.Mathlib.Omega.{arith}
 use lib.Dec.{eqb}
 use Rattle.board.specs.declared.Direction.the-variants.{In}
-use Rattle.regs.specs.Registers.{withSide, chosen, withChosen, withLen}
+use Rattle.regs.specs.Registers.{withSide, chosen, withChosen}
+use Rattle.csr.specs.Registers.{withLen}
 use Rattle.regs.specs.Control.{csr0lStored, csr0hFlushed}
-use Rattle.stores.specs.Stores.{Log, noted, FIFO, writeFaddr, writePower, writeIndex, writeCsr0l, flushCsr0h, writeTxcsrl, writeRxcsrl, writeIso, writeMaxp, writeIntrusbe, writeIntre, writePacket}
+use Rattle.stores.specs.Stores.{Log, noted, writeFaddr, writePower, writeIndex, writeCsr0l, flushCsr0h, writeTxcsrl, writeRxcsrl, writeIso, writeMaxp, writeIntrusbe, writeIntre, writePacket}
+use Rattle.store_list.specs.Stores.{FIFO}
 use Rattle.stores.specs.Promise.{Store, faddr, power, index, csr0l, csr0h, txcsrl, rxcsrl, iso, maxp, intrusbe, intre, packet, does, Noted}
 
 packet-noted : (n : ℕ) (g : Log) → Noted (packet n) g (writePacket n g)

@@ -1,29 +1,29 @@
 -- The model's promises about stores, each once over every store. Assumes nothing.
-use Prim.Native.Nat.{ℕ, _+_, _*_, _<_, _≤_}
-use mathlib.Core.Path.{_≡_, refl, _∙_}
+use Prim.Native.Nat.{ℕ, _+_, _<_}
+use mathlib.Core.Path.{_≡_, refl}
 use mathlib.Core.Bool.{Bool, true, false, cond}
 use native.Mathlib.Omega.{arith}
 use native.Mathlib.Decide.{ℕ-discrete}
 use borrow.Author.Tests.{eq-eqb, ne-eqb}
-use lib.Dec.{eqb, lit<}
-use lib.ListN.{length, getD, set, drop}
-use lib.Seq.{getD-set-other}
-use mathlib.Core.List.{List, [], _∷_}
-use mathlib.Core.Logic.{_⊎_, inl, inr}
+use lib.Dec.{eqb}
+use mathlib.Core.List.{List}
 use Rattle.laws.specs.Words.{raised}
 use Rattle.board.specs.declared.Direction.{Direction}
 use Rattle.board.specs.declared.Direction.the-variants.{Out, In}
-use Rattle.regs.specs.declared.Side.{Side}
+use Rattle.csr.specs.declared.Side.{Side}
 use Rattle.regs.specs.declared.Regs.{Regs}
-use Rattle.regs.specs.declared.control.Csr0l.{Csr0l}
-use Rattle.regs.specs.declared.control.Csr0lSet.{Csr0lSet}
-use Rattle.regs.specs.declared.control.TxcsrlSet.{TxcsrlSet}
-use Rattle.regs.specs.declared.control.RxcsrlSet.{RxcsrlSet}
-use Rattle.regs.specs.Registers.{Whole, sideAt, withIndex, chosen, withChosen, withIso, withMaxp, withLen, towards, enabledOf}
-use Rattle.regs.specs.Control.{csr0lStored, csr0hFlushed, txStored, rxStored, csr0lRead, csr0lSet, txcsrlRead, txcsrlSet, rxcsrlRead, rxcsrlSet}
+use Rattle.csr.specs.declared.Csr0l.{Csr0l}
+use Rattle.csr.specs.declared.Csr0lSet.{Csr0lSet}
+use Rattle.csr.specs.declared.TxcsrlSet.{TxcsrlSet}
+use Rattle.csr.specs.declared.RxcsrlSet.{RxcsrlSet}
+use Rattle.regs.specs.Registers.{Whole, sideAt, withIndex, chosen, withChosen, enabledOf}
+use Rattle.csr.specs.Registers.{withIso, withMaxp, withLen, towards}
+use Rattle.regs.specs.Control.{csr0lStored, csr0hFlushed, csr0lRead, txcsrlRead, rxcsrlRead}
+use Rattle.csr.specs.Control.{txStored, rxStored, csr0lSet, txcsrlSet, rxcsrlSet}
 use Rattle.regs.proofs.Sides.{side-seen, by-eps, keeps-board, keeps-pending, keeps-length, keeps-index, keeps-faddr}
 use Rattle.regs.proofs.AsWritten.{zero-in, zero-out, zero-other, flush-in, flush-out, flush-other, zero-keeps, flush-keeps}
-use Rattle.stores.specs.Stores.{Log, log, noted, selectListed, FIFO, writeFaddr, writePower, writeIndex, writeCsr0l, flushCsr0h, writeTxcsrl, writeRxcsrl, writeIso, writeMaxp, writeIntrusbe, writeIntre, writePacket, modifyCsr0l, modifyTxcsrl, modifyRxcsrl, modifyIntre, listed}
+use Rattle.stores.specs.Stores.{Log, log, noted, writeFaddr, writePower, writeIndex, writeCsr0l, flushCsr0h, writeTxcsrl, writeRxcsrl, writeIso, writeMaxp, writeIntrusbe, writeIntre, writePacket, modifyCsr0l, modifyTxcsrl, modifyRxcsrl, modifyIntre}
+use Rattle.store_list.specs.Stores.{selectListed, FIFO}
 use Rattle.stores.specs.Promise.{Store, faddr, power, index, csr0l, csr0h, txcsrl, rxcsrl, iso, maxp, intrusbe, intre, packet, does, leaves, selects, addresses, Kept}
 
 -- a change of the selected endpoint's side of direction c, seen at endpoint e and direction d
@@ -142,23 +142,3 @@ modify-rxcsrl s g = refl
 pub modify-intre : (d : Direction) (e : ℕ) (g : Log) → modifyIntre d e g ≡ does (intre d (raised (enabledOf d (g .regs .enable)) e)) g
 unfolding modifyIntre
 modify-intre d e g = refl
-
--- "entries past the count stay", and so do those before it
-far : (i n k : ℕ) → k < 3 → (i < n * 3) ⊎ (n * 3 + 3 ≤ i) → i ≡ n * 3 + k → ⊥
-far i n k b (inl h) p = omega arith
-far i n k b (inr h) p = omega arith
-
-pub listed-other : (l : List ℕ) (n a e v i z : ℕ) → (i < n * 3) ⊎ (n * 3 + 3 ≤ i) → getD (listed l n a e v) i z ≡ getD l i z
-unfolding listed
-listed-other l n a e v i z h =
-    getD-set-other (set (set l (n * 3) a) (n * 3 + 1) e) (n * 3 + 2) i v z (far i n 2 (lit< tt) h)
-    ∙ getD-set-other (set l (n * 3) a) (n * 3 + 1) i e z (far i n 1 (lit< tt) h)
-    ∙ getD-set-other l (n * 3) i a z (λ (p : i ≡ n * 3). far i n 0 (lit< tt) h (omega arith))
-
--- the first store of a list
-pub listed-first : (l : List ℕ) (register endpoint value : ℕ) → 3 ≤ length l → listed l 0 register endpoint value ≡ register ∷ endpoint ∷ value ∷ drop 3 l
-unfolding listed
-listed-first [] r e v h = absurd (omega arith)
-listed-first (a ∷ []) r e v h = absurd (omega arith)
-listed-first (a ∷ b ∷ []) r e v h = absurd (omega arith)
-listed-first (a ∷ b ∷ c ∷ l) r e v h = refl

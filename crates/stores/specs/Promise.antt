@@ -7,16 +7,18 @@ use lib.ListN.{length}
 use lib.Dec.{eqb}
 use Rattle.board.specs.declared.Direction.{Direction}
 use Rattle.board.specs.declared.Direction.the-variants.{Out, In}
-use Rattle.regs.specs.declared.Side.{Side}
+use Rattle.csr.specs.declared.Side.{Side}
 use Rattle.regs.specs.declared.Enable.{Enable}
 use Rattle.regs.specs.declared.Regs.{Regs}
-use Rattle.regs.specs.declared.control.Csr0l.{Csr0l}
-use Rattle.regs.specs.declared.control.Txcsrl.{Txcsrl}
-use Rattle.regs.specs.declared.control.Rxcsrl.{Rxcsrl}
-use Rattle.regs.specs.Registers.{sideAt, withIso, withMaxp, withLen, towards, enabled}
-use Rattle.regs.specs.Control.{txStored, rxStored, zeroTxStored, dropped, csr0lNumber, txcsrlNumber, rxcsrlNumber}
-use Rattle.stores.specs.Stores as Stores
-use Rattle.stores.specs.Stores.{Log, listed, FADDR, POWER, INDEX, CSR0L, CSR0H, TXCSRL, RXCSRL, INTRUSBE, FIFO, csrh, writeFaddr, writePower, writeIndex, writeCsr0l, flushCsr0h, writeTxcsrl, writeRxcsrl, writeIso, writeMaxp, writeIntrusbe, writeIntre, writePacket}
+use Rattle.csr.specs.declared.Csr0l.{Csr0l}
+use Rattle.csr.specs.declared.Txcsrl.{Txcsrl}
+use Rattle.csr.specs.declared.Rxcsrl.{Rxcsrl}
+use Rattle.regs.specs.Registers.{sideAt, enabled}
+use Rattle.csr.specs.Registers.{withIso, withMaxp, withLen, towards}
+use Rattle.csr.specs.Control.{txStored, rxStored, zeroTxStored, dropped, csr0lNumber, txcsrlNumber, rxcsrlNumber}
+use Rattle.store_list.specs.Stores as Stores
+use Rattle.stores.specs.Stores.{Log, writeFaddr, writePower, writeIndex, writeCsr0l, flushCsr0h, writeTxcsrl, writeRxcsrl, writeIso, writeMaxp, writeIntrusbe, writeIntre, writePacket}
+use Rattle.store_list.specs.Stores.{listed, FADDR, POWER, INDEX, CSR0L, CSR0H, TXCSRL, RXCSRL, INTRUSBE, FIFO, csrh}
 
 -- the stores of the model. A `modify` is the `write` of what was read with a bit set: proofs/Promises.antt says so.
 pub data Store : Type 0 where

@@ -1,25 +1,27 @@
 -- The stores: what each does to the registers and what it lists. A store goes from a Log to a Log.
 -- Assumes nothing.
-use Prim.Native.Nat.{ℕ, _+_, _*_, _<_}
+use Prim.Native.Nat.{ℕ, _+_, _<_}
 use mathlib.Core.Path.{_≡_}
 use mathlib.Core.Bool.{cond}
 use mathlib.Core.List.{List}
 use lib.Dec.{eqb}
-use lib.ListN.{set}
 use Rattle.laws.specs.Words.{raised}
 use Rattle.board.specs.declared.Direction.{Direction}
 use Rattle.board.specs.declared.Direction.the-variants.{Out, In}
 use Rattle.regs.specs.declared.Regs.{Regs}
-use Rattle.regs.specs.declared.Side.{Side}
-use Rattle.regs.specs.declared.control.Csr0l.{Csr0l}
-use Rattle.regs.specs.declared.control.Txcsrl.{Txcsrl}
-use Rattle.regs.specs.declared.control.Rxcsrl.{Rxcsrl}
-use Rattle.regs.specs.declared.control.Csr0lSet.{Csr0lSet}
-use Rattle.regs.specs.declared.control.TxcsrlSet.{TxcsrlSet}
-use Rattle.regs.specs.declared.control.RxcsrlSet.{RxcsrlSet}
+use Rattle.csr.specs.declared.Side.{Side}
+use Rattle.csr.specs.declared.Csr0l.{Csr0l}
+use Rattle.csr.specs.declared.Txcsrl.{Txcsrl}
+use Rattle.csr.specs.declared.Rxcsrl.{Rxcsrl}
+use Rattle.csr.specs.declared.Csr0lSet.{Csr0lSet}
+use Rattle.csr.specs.declared.TxcsrlSet.{TxcsrlSet}
+use Rattle.csr.specs.declared.RxcsrlSet.{RxcsrlSet}
 use Rattle.stores.specs.declared.Logged.{Logged}
-use Rattle.regs.specs.Registers.{Whole, withSide, withIndex, withFaddr, withPower, withEnable, chosen, withChosen, withIso, withMaxp, withLen, enabledOf, enabled}
-use Rattle.regs.specs.Control.{csr0lNumber, txcsrlNumber, rxcsrlNumber, csr0lRead, txcsrlRead, rxcsrlRead, csr0lStored, csr0hFlushed, txStored, rxStored, csr0lSet, txcsrlSet, rxcsrlSet}
+use Rattle.regs.specs.Registers.{Whole, withSide, withIndex, withFaddr, withPower, withEnable, chosen, withChosen, enabledOf, enabled}
+use Rattle.csr.specs.Registers.{withIso, withMaxp, withLen}
+use Rattle.csr.specs.Control.{csr0lNumber, txcsrlNumber, rxcsrlNumber, txStored, rxStored, csr0lSet, txcsrlSet, rxcsrlSet}
+use Rattle.regs.specs.Control.{csr0lRead, txcsrlRead, rxcsrlRead, csr0lStored, csr0hFlushed}
+use Rattle.store_list.specs.Stores.{listed, FADDR, POWER, INDEX, CSR0L, CSR0H, TXCSRL, RXCSRL, INTRUSBE, FIFO, csrh, maxp, intre}
 
 -- the registers, the lent list, and how many stores stand in it
 pub record Log : Type 0 where
@@ -34,73 +36,10 @@ log r l n = record { regs = r; list = l; count = n }
 abbrev pub logOf : Logged → List ℕ → Log
 logOf o l = record { regs = o .regs; list = l; count = o .n }
 
--- document 01: "three a store: register, selected endpoint, value"; "entries past the count stay"
-unfoldable pub listed : List ℕ → ℕ → ℕ → ℕ → ℕ → List ℕ
-listed l n register endpoint value = set (set (set l (n * 3) register) (n * 3 + 1) endpoint) (n * 3 + 2) value
-
 -- a store to a register that leaves the registers r: one more in the list. The selection is that of r, so that "an index store has the
 -- new number in both places".
 unfoldable pub noted : ℕ → ℕ → Regs → List ℕ → ℕ → Log
 noted register value r l n = record { regs = r; list = listed l n register (r .index) value; count = n + 1 }
-
--- document 01's register numbers
-abbrev pub FADDR : ℕ
-FADDR = 1
-
-abbrev pub POWER : ℕ
-POWER = 2
-
-abbrev pub INDEX : ℕ
-INDEX = 3
-
-abbrev pub CSR0L : ℕ
-CSR0L = 4
-
-abbrev pub CSR0H : ℕ
-CSR0H = 5
-
-abbrev pub TXCSRL : ℕ
-TXCSRL = 6
-
-abbrev pub RXCSRL : ℕ
-RXCSRL = 7
-
-abbrev pub TXCSRH : ℕ
-TXCSRH = 8
-
-abbrev pub RXCSRH : ℕ
-RXCSRH = 9
-
-abbrev pub TXMAXP : ℕ
-TXMAXP = 10
-
-abbrev pub RXMAXP : ℕ
-RXMAXP = 11
-
-abbrev pub INTRTXE : ℕ
-INTRTXE = 12
-
-abbrev pub INTRRXE : ℕ
-INTRRXE = 13
-
-abbrev pub INTRUSBE : ℕ
-INTRUSBE = 14
-
-abbrev pub FIFO : ℕ
-FIFO = 15
-
--- the registers that come in pairs, by direction
-abbrev pub csrh : Direction → ℕ
-csrh In = TXCSRH
-csrh Out = RXCSRH
-
-abbrev pub maxp : Direction → ℕ
-maxp In = TXMAXP
-maxp Out = RXMAXP
-
-abbrev pub intre : Direction → ℕ
-intre In = INTRTXE
-intre Out = INTRRXE
 
 unfoldable pub writeFaddr : ℕ → Log → Log
 writeFaddr a g = noted FADDR a (withFaddr (g .regs) a) (g .list) (g .count)
@@ -108,10 +47,6 @@ writeFaddr a g = noted FADDR a (withFaddr (g .regs) a) (g .list) (g .count)
 -- "Power's value is 1, intrusbe's 7."
 unfoldable pub writePower : Log → Log
 writePower g = noted POWER 1 (withPower (g .regs) 1) (g .list) (g .count)
-
--- "An index store has the new number in both places."
-unfoldable pub selectListed : List ℕ → ℕ → ℕ → List ℕ
-selectListed l n e = listed l n INDEX e e
 
 unfoldable pub writeIndex : ℕ → Log → Log
 writeIndex e g = noted INDEX e (withIndex (g .regs) e) (g .list) (g .count)

@@ -1,53 +1,22 @@
 // Every store of the source: what it does to the registers, and its place in the lent list.
 // A function that stores takes how many stores stand in the list and gives back how many stand there now.
 use board::Direction;
+use csr::Csr0l;
+use csr::Csr0lSet;
+use csr::Rxcsrl;
+use csr::RxcsrlSet;
+use csr::Side;
+use csr::Txcsrl;
+use csr::TxcsrlSet;
 use regs::Regs;
-use regs::Side;
-use regs::control;
-use regs::control::Csr0l;
-use regs::control::Csr0lSet;
-use regs::control::Rxcsrl;
-use regs::control::RxcsrlSet;
-use regs::control::Txcsrl;
-use regs::control::TxcsrlSet;
 ghost use mathlib.Core.Path.{_≡_};
 ghost use Prim.Native.Nat.{_+_, _*_, _≤_, _<_};
 ghost use lib.ListN.{length};
-ghost use Rattle.stores.specs.Stores.{log, logOf, listed, noted, selectListed, csrh, maxp, intre, writeFaddr, writePower, writeIndex, writeCsr0l, writeTxcsrl, writeRxcsrl, modifyCsr0l, modifyTxcsrl, modifyRxcsrl, flushCsr0h, writeIso, writeMaxp, writeIntrusbe, writeIntre, modifyIntre, writePacket};
+ghost use Rattle.stores.specs.Stores.{log, logOf, noted, writeFaddr, writePower, writeIndex, writeCsr0l, writeTxcsrl, writeRxcsrl, modifyCsr0l, modifyTxcsrl, modifyRxcsrl, flushCsr0h, writeIso, writeMaxp, writeIntrusbe, writeIntre, modifyIntre, writePacket};
+ghost use Rattle.store_list.specs.Stores.{listed, selectListed};
 ghost use Rattle.regs.specs.Registers.{withIndex, withEnable, enabledOf, enabled};
 
 pub mod side;
-
-// Document 01's register numbers.
-const FADDR: u16 = 1;
-
-const POWER: u16 = 2;
-
-const INDEX: u16 = 3;
-
-const CSR0L: u16 = 4;
-
-const CSR0H: u16 = 5;
-
-const TXCSRL: u16 = 6;
-
-const RXCSRL: u16 = 7;
-
-const TXCSRH: u16 = 8;
-
-const RXCSRH: u16 = 9;
-
-const TXMAXP: u16 = 10;
-
-const RXMAXP: u16 = 11;
-
-const INTRTXE: u16 = 12;
-
-const INTRRXE: u16 = 13;
-
-const INTRUSBE: u16 = 14;
-
-const FIFO: u16 = 15;
 
 pub struct Logged {
     pub regs: Regs,
@@ -60,24 +29,12 @@ pub struct Sided {
     pub n: usize,
 }
 
-// Three numbers a store. The room is asked of the caller and not tested here.
-fn put(list: &mut [u16], n: usize, register: u16, endpoint: u8, value: u16) -> usize
-    requires { ⌜ n * 3 + 3 ≤ length (now list) ⌝ }
-    ensures { λ r. ⌜ (r ≡ n + 1) × (now (list .exit) ≡ listed (now (list .entry)) n register endpoint value) ⌝ }
-{
-    let at = n * 3;
-    list[at] = register;
-    list[at + 1] = endpoint as u16;
-    list[at + 2] = value;
-    n + 1
-}
-
 // The store that left these registers, listed.
 fn note(r: Regs, list: &mut [u16], n: usize, register: u16, value: u16) -> Logged
     requires { ⌜ n * 3 + 3 ≤ length (now list) ⌝ }
     ensures { λ o. ⌜ (logOf o (now (list .exit)) ≡ noted register value r (now (list .entry)) n) × (o .n ≡ n + 1) ⌝ }
 {
-    let m = put(list, n, register, r.index, value);
+    let m = store_list::put(list, n, register, r.index, value);
     Logged { regs: r, n: m }
 }
 
@@ -87,7 +44,7 @@ pub fn write_faddr(r: Regs, list: &mut [u16], n: usize, addr: u8) -> Logged
 {
     let mut s = r;
     s.faddr = addr;
-    note(s, list, n, FADDR, addr as u16)
+    note(s, list, n, store_list::FADDR, addr as u16)
 }
 
 pub fn write_power(r: Regs, list: &mut [u16], n: usize) -> Logged
@@ -96,7 +53,7 @@ pub fn write_power(r: Regs, list: &mut [u16], n: usize) -> Logged
 {
     let mut s = r;
     s.power = 1;
-    note(s, list, n, POWER, 1)
+    note(s, list, n, store_list::POWER, 1)
 }
 
 // The index store in its two halves, for loops: registers that stay in one place, instead of going into a `Logged` and out again, are
@@ -113,7 +70,7 @@ pub fn note_select(list: &mut [u16], n: usize, e: u8) -> usize
     requires { ⌜ n * 3 + 3 ≤ length (now list) ⌝ }
     ensures { λ m. ⌜ (m ≡ n + 1) × (now (list .exit) ≡ selectListed (now (list .entry)) n e) ⌝ }
 {
-    put(list, n, INDEX, e, e as u16)
+    store_list::put(list, n, store_list::INDEX, e, e as u16)
 }
 
 pub fn write_index(r: Regs, list: &mut [u16], n: usize, e: u8) -> Logged
@@ -129,33 +86,33 @@ pub fn write_csr0l(r: Regs, list: &mut [u16], n: usize, w: Csr0l) -> Logged
     requires { ⌜ n * 3 + 3 ≤ length (now list) ⌝ }
     ensures { λ o. ⌜ (logOf o (now (list .exit)) ≡ writeCsr0l w (log r (now (list .entry)) n)) × (o .n ≡ n + 1) ⌝ }
 {
-    let s = control::csr0l_stored(w, r);
-    note(s, list, n, CSR0L, control::csr0l_number(w))
+    let s = regs::csr0l_stored(w, r);
+    note(s, list, n, store_list::CSR0L, csr::csr0l_number(w))
 }
 
 pub fn write_txcsrl(r: Regs, list: &mut [u16], n: usize, w: Txcsrl) -> Logged
     requires { ⌜ n * 3 + 3 ≤ length (now list) ⌝ }
     ensures { λ o. ⌜ (logOf o (now (list .exit)) ≡ writeTxcsrl w (log r (now (list .entry)) n)) × (o .n ≡ n + 1) ⌝ }
 {
-    let t = control::tx_stored(w, regs::side_at(r, r.index, Direction::In));
+    let t = csr::tx_stored(w, regs::side_at(r, r.index, Direction::In));
     let s = regs::with_side(r, r.index, Direction::In, t);
-    note(s, list, n, TXCSRL, control::txcsrl_number(w))
+    note(s, list, n, store_list::TXCSRL, csr::txcsrl_number(w))
 }
 
 pub fn write_rxcsrl(r: Regs, list: &mut [u16], n: usize, w: Rxcsrl) -> Logged
     requires { ⌜ n * 3 + 3 ≤ length (now list) ⌝ }
     ensures { λ o. ⌜ (logOf o (now (list .exit)) ≡ writeRxcsrl w (log r (now (list .entry)) n)) × (o .n ≡ n + 1) ⌝ }
 {
-    let t = control::rx_stored(w, regs::side_at(r, r.index, Direction::Out));
+    let t = csr::rx_stored(w, regs::side_at(r, r.index, Direction::Out));
     let s = regs::with_side(r, r.index, Direction::Out, t);
-    note(s, list, n, RXCSRL, control::rxcsrl_number(w))
+    note(s, list, n, store_list::RXCSRL, csr::rxcsrl_number(w))
 }
 
 pub fn modify_csr0l(r: Regs, list: &mut [u16], n: usize, s: Csr0lSet) -> Logged
     requires { ⌜ n * 3 + 3 ≤ length (now list) ⌝ }
     ensures { λ o. ⌜ (logOf o (now (list .exit)) ≡ modifyCsr0l s (log r (now (list .entry)) n)) × (o .n ≡ n + 1) ⌝ }
 {
-    let w = control::csr0l_set(s, control::read_csr0l(r));
+    let w = csr::csr0l_set(s, regs::read_csr0l(r));
     write_csr0l(r, list, n, w)
 }
 
@@ -163,7 +120,7 @@ pub fn modify_txcsrl(r: Regs, list: &mut [u16], n: usize, s: TxcsrlSet) -> Logge
     requires { ⌜ n * 3 + 3 ≤ length (now list) ⌝ }
     ensures { λ o. ⌜ (logOf o (now (list .exit)) ≡ modifyTxcsrl s (log r (now (list .entry)) n)) × (o .n ≡ n + 1) ⌝ }
 {
-    let w = control::txcsrl_set(s, control::read_txcsrl(r));
+    let w = csr::txcsrl_set(s, regs::read_txcsrl(r));
     write_txcsrl(r, list, n, w)
 }
 
@@ -171,44 +128,17 @@ pub fn modify_rxcsrl(r: Regs, list: &mut [u16], n: usize, s: RxcsrlSet) -> Logge
     requires { ⌜ n * 3 + 3 ≤ length (now list) ⌝ }
     ensures { λ o. ⌜ (logOf o (now (list .exit)) ≡ modifyRxcsrl s (log r (now (list .entry)) n)) × (o .n ≡ n + 1) ⌝ }
 {
-    let w = control::rxcsrl_set(s, control::read_rxcsrl(r));
+    let w = csr::rxcsrl_set(s, regs::read_rxcsrl(r));
     write_rxcsrl(r, list, n, w)
 }
 
-// CSR0H reads 0, so that `modify` with the flush bit stores that bit alone.
+// store_list::CSR0H reads 0, so that `modify` with the flush bit stores that bit alone.
 pub fn flush_csr0h(r: Regs, list: &mut [u16], n: usize) -> Logged
     requires { ⌜ n * 3 + 3 ≤ length (now list) ⌝ }
     ensures { λ o. ⌜ (logOf o (now (list .exit)) ≡ flushCsr0h (log r (now (list .entry)) n)) × (o .n ≡ n + 1) ⌝ }
 {
-    let s = control::csr0h_flushed(r);
-    note(s, list, n, CSR0H, 1)
-}
-
-fn csrh_of(d: Direction) -> u16
-    ensures { λ r. ⌜ r ≡ csrh d ⌝ }
-{
-    match d {
-        Direction::Out => RXCSRH,
-        Direction::In => TXCSRH,
-    }
-}
-
-fn maxp_of(d: Direction) -> u16
-    ensures { λ r. ⌜ r ≡ maxp d ⌝ }
-{
-    match d {
-        Direction::Out => RXMAXP,
-        Direction::In => TXMAXP,
-    }
-}
-
-fn intre_of(d: Direction) -> u16
-    ensures { λ r. ⌜ r ≡ intre d ⌝ }
-{
-    match d {
-        Direction::Out => INTRRXE,
-        Direction::In => INTRTXE,
-    }
+    let s = regs::csr0h_flushed(r);
+    note(s, list, n, store_list::CSR0H, 1)
 }
 
 pub fn write_iso(r: Regs, list: &mut [u16], n: usize, d: Direction) -> Logged
@@ -218,7 +148,7 @@ pub fn write_iso(r: Regs, list: &mut [u16], n: usize, d: Direction) -> Logged
     let mut t = regs::side_at(r, r.index, d);
     t.iso = true;
     let s = regs::with_side(r, r.index, d, t);
-    note(s, list, n, csrh_of(d), 64)
+    note(s, list, n, store_list::csrh_of(d), 64)
 }
 
 pub fn write_maxp(r: Regs, list: &mut [u16], n: usize, d: Direction, size: u16) -> Logged
@@ -228,7 +158,7 @@ pub fn write_maxp(r: Regs, list: &mut [u16], n: usize, d: Direction, size: u16) 
     let mut t = regs::side_at(r, r.index, d);
     t.maxp = size;
     let s = regs::with_side(r, r.index, d, t);
-    note(s, list, n, maxp_of(d), size)
+    note(s, list, n, store_list::maxp_of(d), size)
 }
 
 pub fn write_intrusbe(r: Regs, list: &mut [u16], n: usize) -> Logged
@@ -237,7 +167,7 @@ pub fn write_intrusbe(r: Regs, list: &mut [u16], n: usize) -> Logged
 {
     let mut s = r;
     s.enable.usb = 7;
-    note(s, list, n, INTRUSBE, 7)
+    note(s, list, n, store_list::INTRUSBE, 7)
 }
 
 fn enable_of(r: Regs, d: Direction) -> u16
@@ -270,7 +200,7 @@ pub fn write_intre(r: Regs, list: &mut [u16], n: usize, d: Direction, v: u16) ->
     ensures { λ o. ⌜ (logOf o (now (list .exit)) ≡ writeIntre d v (log r (now (list .entry)) n)) × (o .n ≡ n + 1) ⌝ }
 {
     let s = with_enable(r, d, v);
-    note(s, list, n, intre_of(d), v)
+    note(s, list, n, store_list::intre_of(d), v)
 }
 
 pub fn modify_intre(r: Regs, list: &mut [u16], n: usize, d: Direction, e: u8) -> Logged
@@ -292,5 +222,5 @@ pub fn write_packet(r: Regs, list: &mut [u16], n: usize, m: u16) -> Logged
     let mut t = regs::side_at(r, r.index, Direction::In);
     t.len = m;
     let s = regs::with_side(r, r.index, Direction::In, t);
-    note(s, list, n, FIFO, m)
+    note(s, list, n, store_list::FIFO, m)
 }

@@ -1,23 +1,23 @@
 // The stores that change only a side of the selected endpoint, told by that side. A function that makes several of them in a row takes the
 // side out of the registers once and puts it back once, instead of copying all registers at every store.
 use crate::Sided;
-use regs::Side;
-use regs::control;
-use regs::control::Txcsrl;
-use regs::control::TxcsrlSet;
+use csr::Side;
+use csr::Txcsrl;
+use csr::TxcsrlSet;
 ghost use mathlib.Core.Path.{_≡_};
 ghost use Prim.Native.Nat.{_+_, _*_, _≤_};
 ghost use lib.ListN.{length};
 ghost use Rattle.board.specs.declared.Direction.the-variants.{In};
-ghost use Rattle.regs.specs.Control.{txcsrlOf};
-ghost use Rattle.stores.specs.Stores.{listed, OnSide, writeTxcsrl, modifyTxcsrl, writePacket};
+ghost use Rattle.csr.specs.Control.{txcsrlOf};
+ghost use Rattle.store_list.specs.Stores.{listed};
+ghost use Rattle.stores.specs.Stores.{OnSide, writeTxcsrl, modifyTxcsrl, writePacket};
 
 // The store that left this side of endpoint e, listed.
 fn note(s: Side, list: &mut [u16], n: usize, register: u16, e: u8, value: u16) -> Sided
     requires { ⌜ n * 3 + 3 ≤ length (now list) ⌝ }
     ensures { λ o. ⌜ (o .side ≡ s) × (o .n ≡ n + 1) × (now (list .exit) ≡ listed (now (list .entry)) n register e value) ⌝ }
 {
-    let m = crate::put(list, n, register, e, value);
+    let m = store_list::put(list, n, register, e, value);
     Sided { side: s, n: m }
 }
 
@@ -40,15 +40,15 @@ pub fn write_txcsrl(s: Side, list: &mut [u16], n: usize, e: u8, w: Txcsrl) -> Si
     requires { ⌜ n * 3 + 3 ≤ length (now list) ⌝ }
     ensures { λ o. ⌜ (OnSide (writeTxcsrl w) In e s (now (list .entry)) n (o .side) (now (list .exit)) (o .n)) × (o .n ≡ n + 1) ⌝ }
 {
-    let t = control::tx_stored(w, s);
-    note(t, list, n, crate::TXCSRL, e, control::txcsrl_number(w))
+    let t = csr::tx_stored(w, s);
+    note(t, list, n, store_list::TXCSRL, e, csr::txcsrl_number(w))
 }
 
 pub fn modify_txcsrl(s: Side, list: &mut [u16], n: usize, e: u8, x: TxcsrlSet) -> Sided
     requires { ⌜ n * 3 + 3 ≤ length (now list) ⌝ }
     ensures { λ o. ⌜ (OnSide (modifyTxcsrl x) In e s (now (list .entry)) n (o .side) (now (list .exit)) (o .n)) × (o .n ≡ n + 1) ⌝ }
 {
-    let w = control::txcsrl_set(x, txcsrl_of(s));
+    let w = csr::txcsrl_set(x, txcsrl_of(s));
     write_txcsrl(s, list, n, e, w)
 }
 
@@ -61,5 +61,5 @@ pub fn write_packet(s: Side, list: &mut [u16], n: usize, e: u8, m: u16) -> Sided
     }
     let mut t = s;
     t.len = m;
-    note(t, list, n, crate::FIFO, e, m)
+    note(t, list, n, store_list::FIFO, e, m)
 }

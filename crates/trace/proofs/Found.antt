@@ -12,18 +12,19 @@ use borrow.Author.Tests.{leb-true}
 use Rattle.reader.specs.declared.Number.{Number}
 use Rattle.reader.specs.declared.Number.the-variants.{Value, Bad as NoNumber}
 use Rattle.reader.specs.Groups.{numberAt}
-use Rattle.entries.specs.declared.Arg.{Arg}
-use Rattle.entries.specs.declared.Arg.the-variants.{Got, No}
-use Rattle.entries.specs.declared.Two.{Two}
-use Rattle.entries.specs.declared.Two.the-variants.{Both, Neither}
-use Rattle.entries.specs.declared.Held.the-variants.{Bytes, Cut}
+use Rattle.arguments.specs.declared.Arg.{Arg}
+use Rattle.arguments.specs.declared.Arg.the-variants.{Got, No}
+use Rattle.arguments.specs.declared.Two.{Two}
+use Rattle.arguments.specs.declared.Two.the-variants.{Both, Neither}
+use Rattle.arguments.specs.declared.Held.the-variants.{Bytes, Cut}
 use Rattle.entries.specs.declared.Entry.{Entry}
 use Rattle.entries.specs.declared.Entry.the-variants.{Read}
 use Rattle.entries.specs.declared.Parsed.{Parsed}
 use Rattle.entries.specs.declared.Parsed.the-variants.{Found, End, Bad}
-use Rattle.entries.specs.Arguments.{argAt, twoAt}
-use Rattle.entries.specs.Entries.{withArg, withTwo, withPacket, heldIn, heldBy, packetAt, allocateAt, addressAt, writeAt, readAt, stallAt, isStalledAt, arrivalAt, collectAt, busAt, underrunAt, overrunAt, codeAt, withCode, entryAt}
-use Rattle.entries.proofs.Ranges.{ranged-two}
+use Rattle.arguments.specs.Arguments.{argAt, twoAt}
+use Rattle.entries.specs.Entries.{withArg, withTwo, withPacket, allocateAt, addressAt, writeAt, readAt, stallAt, isStalledAt, arrivalAt, collectAt, busAt, underrunAt, overrunAt, codeAt, withCode, entryAt}
+use Rattle.arguments.specs.Entries.{heldIn, heldBy, packetAt}
+use Rattle.arguments.proofs.Ranges.{ranged-two}
 use Rattle.act.specs.Act.{Within}
 
 -- an entry that is as it should be, or something bad, and never the end

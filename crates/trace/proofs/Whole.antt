@@ -6,9 +6,8 @@ use mathlib.Core.Path.{_≡_, refl, sym, ap, _∙_}
 use mathlib.Core.List.{List, [], _++_, append-assoc}
 use borrow.Author.Tests.{le-leb, lt-leb}
 use lib.ListN.{length, take}
-use Rattle.record.specs.declared.Record.{Record}
 use Rattle.report.specs.Text.{header, endLine, badLine}
-use Rattle.report.proofs.Appended.{front}
+use Rattle.text.proofs.Appended.{front}
 use Rattle.entries.specs.declared.Entry.{Entry}
 use Rattle.entries.specs.declared.Parsed.{Parsed}
 use Rattle.entries.specs.declared.Parsed.the-variants.{Found, End, Bad}
@@ -18,7 +17,7 @@ use Rattle.act.specs.Act.{State, state, acted}
 use Rattle.trace.specs.declared.Came.{Came}
 use Rattle.trace.specs.declared.Came.the-variants as came
 use Rattle.trace.specs.declared.Stepped.{Stepped}
-use Rattle.trace.specs.Report.{lineOf, reportBy, reportFrom, restOf, begun, reportOf, StepOutcome, stepped, stepBy, stepOf}
+use Rattle.trace.specs.Report.{lineOf, reportBy, reportFrom, restOf, reportFor, StepOutcome, stepped, stepBy, stepOf}
 use Rattle.trace.specs.Runs.{Took, Reached, begins, goes, Completes}
 
 -- how many entries are allowed does not matter where the bytes that are left are fewer
@@ -113,25 +112,25 @@ reached {s} (goes text at n x r f l after len past p t c) =
     ∙ sym (append-assoc text (take len after) (restOf s past (suc n) (state (r .«record») f l)))
 
 -- Every input of at most 65,536 bytes: the header, the lines that were written and the last line are the report.
-module _ (k : Record) (s : List ℕ) (short : length s ≤ 65536) {text : List ℕ} {at n : ℕ} {x : State} (p : Reached s (begun k) text at n x) where
-  so-far : header ++ (text ++ restOf s at n x) ≡ reportOf k s
-  unfolding reportOf
+module _ (x₀ : State) (s : List ℕ) (short : length s ≤ 65536) {text : List ℕ} {at n : ℕ} {x : State} (p : Reached s x₀ text at n x) where
+  so-far : header ++ (text ++ restOf s at n x) ≡ reportFor x₀ s
+  unfolding reportFor
   so-far = rw (le-leb _ _ short) (ap (λ (t : List ℕ). header ++ t) (sym (reached p)))
 
   module _ {r : Stepped} {f l after : List ℕ} (t : Took s at x r f l after) where
-    pub ended : r .came ≡ came.End → Completes k s (endLine n)
+    pub ended : r .came ≡ came.End → Completes x₀ s (endLine n)
     ended c = record {
       text = text;
       report = ap (λ (u : List ℕ). header ++ (text ++ u)) (sym (step-end s at n x r f l (t .before) after (t .outcome) c)) ∙ so-far;
     }
 
-    pub stopped : r .came ≡ came.Bad → Completes k s (badLine at)
+    pub stopped : r .came ≡ came.Bad → Completes x₀ s (badLine at)
     stopped c = record {
       text = text;
       report = ap (λ (u : List ℕ). header ++ (text ++ u)) (sym (step-bad s at n x r f l (t .before) after (t .outcome) c)) ∙ so-far;
     }
 
 -- and every longer one
-pub too-long : (k : Record) (s : List ℕ) → 65536 < length s → Completes k s (badLine 65536)
-unfolding reportOf
-too-long k s h = record { text = []; report = rw (lt-leb _ _ h) refl }
+pub too-long : (x : State) (s : List ℕ) → 65536 < length s → Completes x s (badLine 65536)
+unfolding reportFor
+too-long x s h = record { text = []; report = rw (lt-leb _ _ h) refl }

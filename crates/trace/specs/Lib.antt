@@ -1,3 +1,2 @@
-pub mod Operations
 pub mod Report
 pub mod Runs

@@ -38,13 +38,21 @@ reportFrom (suc most) s at n x = reportBy (λ past y. reportFrom most s past (su
 unfoldable pub restOf : List ℕ → ℕ → ℕ → State → List ℕ
 restOf s at n x = reportFrom (suc (length s - at)) s at n x
 
--- where a trace begins: a record, FIFO memory and a store list of zeros
-abbrev pub begun : Record → State
-begun k = state k (replicate (needOf k) 0) (replicate 384 0)
-
 -- "at most 65,536 bytes"; "input too long prints the header and `bad 65536`"
-unfoldable pub reportOf : Record → List ℕ → List ℕ
-reportOf k s = header ++ cond (leb (length s) 65536) (restOf s 0 0 (begun k)) (badLine 65536)
+unfoldable pub reportFor : State → List ℕ → List ℕ
+reportFor x s = header ++ cond (leb (length s) 65536) (restOf s 0 0 x) (badLine 65536)
+
+-- where a trace begins: a record and FIFO memory, with a store list of zeros
+abbrev pub beginning : Record → List ℕ → State
+beginning k f = state k f (replicate 384 0)
+
+-- .. and where nothing else is told, FIFO memory of zeros
+abbrev pub begun : Record → State
+begun k = beginning k (replicate (needOf k) 0)
+
+-- the report of a trace from a record on
+abbrev pub reportOf : Record → List ℕ → List ℕ
+reportOf k s = reportFor (begun k) s
 
 -- all that a step leaves: what it gives back, the FIFO buffer, the store list, and the buffer with the line
 pub record StepOutcome : Type 0 where

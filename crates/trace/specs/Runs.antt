@@ -4,12 +4,11 @@ use Prim.Native.Nat.{ℕ, suc, _≤_}
 use mathlib.Core.Path.{_≡_}
 use mathlib.Core.List.{List, [], _++_}
 use lib.ListN.{length, take}
-use Rattle.record.specs.declared.Record.{Record}
 use Rattle.report.specs.Text.{header}
 use Rattle.act.specs.Act.{State, state}
 use Rattle.trace.specs.declared.Came.the-variants.{Line}
 use Rattle.trace.specs.declared.Stepped.{Stepped}
-use Rattle.trace.specs.Report.{stepped, stepOf, reportOf}
+use Rattle.trace.specs.Report.{stepped, stepOf, reportFor}
 
 -- A step at a place of the trace s, from the state x: it left r, the FIFO buffer f, the store list l and the line buffer `after`, as the
 -- contract of `step` says. The line buffer may hold anything before.
@@ -24,7 +23,7 @@ pub data Reached (s : List ℕ) (x₀ : State) : List ℕ → ℕ → ℕ → St
   goes : (text : List ℕ) (at n : ℕ) (x : State) (r : Stepped) (f l after : List ℕ) (len past : ℕ) → Reached s x₀ text at n x → Took s at x r f l after
       → r .came ≡ Line len past → Reached s x₀ (text ++ take len after) past (suc n) (state (r .«record») f l)
 
--- `last`, after the lines that were written, makes up the report of the trace s
-pub record Completes (k : Record) (s last : List ℕ) : Type 0 where
+-- `last`, after the lines that were written, makes up the report of the trace s from the state x on
+pub record Completes (x : State) (s last : List ℕ) : Type 0 where
   pub text : List ℕ
-  pub report : header ++ (text ++ last) ≡ reportOf k s
+  pub report : header ++ (text ++ last) ≡ reportFor x s

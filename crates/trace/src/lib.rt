@@ -2,7 +2,6 @@
 use entries::Parsed;
 use record::Record;
 ghost use mathlib.Core.Path.{_≡_};
-ghost use lib.ListN.{length};
 ghost use Rattle.act.specs.Act.{state, Lent};
 ghost use Rattle.trace.specs.Report.{stepped, stepOf, Moves};
 

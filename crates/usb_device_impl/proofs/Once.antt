@@ -4,27 +4,15 @@ use contract.Lifetimes.{Lfts}
 use borrow.Fn.Kinds.{Dens, resT, endedOf}
 use denote.Triple.Clauses.{AtExit}
 use denote.Ref.{now}
-use Rattle.usb_device_impl.specs.Calls.{Outcome, ToldOutcome}
-use Rattle.usb_device_impl.proofs.alloc_ep.Kinds as alloc-ep-kinds
-use Rattle.usb_device_impl.proofs.alloc_ep.Reads as alloc-ep-reads
+use Rattle.usb_device_impl.specs.Calls.{Outcome}
 use Rattle.usb_device_impl.proofs.bus_init.Kinds as bus-init-kinds
 use Rattle.usb_device_impl.proofs.bus_init.Reads as bus-init-reads
 use Rattle.usb_device_impl.proofs.enable.Kinds as enable-kinds
 use Rattle.usb_device_impl.proofs.enable.Reads as enable-reads
-use Rattle.usb_device_impl.proofs.reset.Kinds as reset-kinds
-use Rattle.usb_device_impl.proofs.reset.Reads as reset-reads
 use Rattle.usb_device_impl.proofs.set_device_address.Kinds as set-device-address-kinds
 use Rattle.usb_device_impl.proofs.set_device_address.Reads as set-device-address-reads
-use Rattle.usb_device_impl.proofs.set_stalled.Kinds as set-stalled-kinds
-use Rattle.usb_device_impl.proofs.set_stalled.Reads as set-stalled-reads
-use Rattle.usb_device_impl.proofs.is_stalled.Kinds as is-stalled-kinds
-use Rattle.usb_device_impl.proofs.is_stalled.Reads as is-stalled-reads
 use Rattle.usb_device_impl.proofs.force_reset.Kinds as force-reset-kinds
 use Rattle.usb_device_impl.proofs.force_reset.Reads as force-reset-reads
-
-pub alloc-ep : (κs : Lfts 0) (a : Dens κs alloc-ep-kinds.ps) (x y : resT alloc-ep-kinds.r κs .Denot) (e f : AtExit (endedOf 0 alloc-ep-kinds.ps alloc-ep-kinds.r) κs)
-    → alloc-ep-reads.Post κs a x e → alloc-ep-reads.Post κs a y f → x ≡ y
-alloc-ep κs a x y e f p q = p ∙ sym q
 
 pub bus-init : (κs : Lfts 1) (a : Dens κs bus-init-kinds.ps) (x y : resT bus-init-kinds.r κs .Denot) (e f : AtExit (endedOf 1 bus-init-kinds.ps bus-init-kinds.r) κs)
     → bus-init-reads.Post κs a x e → bus-init-reads.Post κs a y f → (x ≡ y) × (now (e .1 .0) ≡ now (f .1 .0))
@@ -34,21 +22,9 @@ pub enable : (κs : Lfts 1) (a : Dens κs enable-kinds.ps) (x y : resT enable-ki
     → enable-reads.Post κs a x e → enable-reads.Post κs a y f → (x ≡ y) × (now (e .1 .0) ≡ now (f .1 .0))
 enable κs a x y e f p q = (ap (λ (o : Outcome). o .call) (p ∙ sym q), ap (λ (o : Outcome). o .list) (p ∙ sym q))
 
-pub reset : (κs : Lfts 1) (a : Dens κs reset-kinds.ps) (x y : resT reset-kinds.r κs .Denot) (e f : AtExit (endedOf 1 reset-kinds.ps reset-kinds.r) κs)
-    → reset-reads.Post κs a x e → reset-reads.Post κs a y f → (x ≡ y) × (now (e .1 .0) ≡ now (f .1 .0))
-reset κs a x y e f p q = (ap (λ (o : Outcome). o .call) (p ∙ sym q), ap (λ (o : Outcome). o .list) (p ∙ sym q))
-
 pub set-device-address : (κs : Lfts 1) (a : Dens κs set-device-address-kinds.ps) (x y : resT set-device-address-kinds.r κs .Denot) (e f : AtExit (endedOf 1 set-device-address-kinds.ps set-device-address-kinds.r) κs)
     → set-device-address-reads.Post κs a x e → set-device-address-reads.Post κs a y f → (x ≡ y) × (now (e .1 .0) ≡ now (f .1 .0))
 set-device-address κs a x y e f p q = (ap (λ (o : Outcome). o .call) (p ∙ sym q), ap (λ (o : Outcome). o .list) (p ∙ sym q))
-
-pub set-stalled : (κs : Lfts 1) (a : Dens κs set-stalled-kinds.ps) (x y : resT set-stalled-kinds.r κs .Denot) (e f : AtExit (endedOf 1 set-stalled-kinds.ps set-stalled-kinds.r) κs)
-    → set-stalled-reads.Post κs a x e → set-stalled-reads.Post κs a y f → (x ≡ y) × (now (e .1 .0) ≡ now (f .1 .0))
-set-stalled κs a x y e f p q = (ap (λ (o : Outcome). o .call) (p ∙ sym q), ap (λ (o : Outcome). o .list) (p ∙ sym q))
-
-pub is-stalled : (κs : Lfts 1) (a : Dens κs is-stalled-kinds.ps) (x y : resT is-stalled-kinds.r κs .Denot) (e f : AtExit (endedOf 1 is-stalled-kinds.ps is-stalled-kinds.r) κs)
-    → is-stalled-reads.Post κs a x e → is-stalled-reads.Post κs a y f → (x ≡ y) × (now (e .1 .0) ≡ now (f .1 .0))
-is-stalled κs a x y e f p q = (ap (λ (o : ToldOutcome). o .call) (p ∙ sym q), ap (λ (o : ToldOutcome). o .list) (p ∙ sym q))
 
 pub force-reset : (κs : Lfts 0) (a : Dens κs force-reset-kinds.ps) (x y : resT force-reset-kinds.r κs .Denot) (e f : AtExit (endedOf 0 force-reset-kinds.ps force-reset-kinds.r) κs)
     → force-reset-reads.Post κs a x e → force-reset-reads.Post κs a y f → x ≡ y

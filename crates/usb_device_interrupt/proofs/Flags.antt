@@ -5,7 +5,7 @@ use Prim.Native.Nat.{ℕ, zero, suc, _+_, _-_, _^_, _≤_, _<_}
 use native.Mathlib.Omega.{arith}
 use Rattle.laws.specs.Words.{bit, raised}
 use Rattle.laws.proofs.Words.{raised-lt}
-use Rattle.common_impl.specs.Common.{numbers}
+use Rattle.laws.specs.Lists.{numbers}
 use Rattle.record.specs.declared.Flags.{Flags}
 use Rattle.usb_device_interrupt.specs.declared.Snapshot.{Snapshot}
 use Rattle.usb_device_interrupt.specs.Interrupt.{busTaken, raisedIf, endpointTaken, endpointsTaken, taken}

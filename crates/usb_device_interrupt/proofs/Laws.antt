@@ -3,8 +3,8 @@ use Prim.Native.Nat.{ℕ, _+_, _-_, _≤_, _<_}
 use mathlib.Core.Path.{_≡_, refl, sym, ap, _∙_}
 use mathlib.Core.List.{foldl}
 use native.Mathlib.Omega.{arith}
-use Rattle.common_impl.specs.Common.{numbers}
-use Rattle.common_impl.proofs.Walk.{numbers-next, numbers-none}
+use Rattle.laws.specs.Lists.{numbers}
+use Rattle.laws.proofs.Lists.{numbers-next, numbers-none}
 use Rattle.record.specs.declared.Flags.{Flags}
 use Rattle.usb_device_interrupt.specs.declared.Snapshot.{Snapshot}
 use Rattle.usb_device_interrupt.specs.Interrupt.{endpointTaken, endpointsTaken}

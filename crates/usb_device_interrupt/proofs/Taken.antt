@@ -14,7 +14,7 @@ use Rattle.board.specs.declared.Direction.the-variants.{In}
 use Rattle.regs.specs.declared.Regs.{Regs}
 use Rattle.events.specs.Events.{intrusbCleared, intrCleared}
 use Rattle.events.proofs.Others.{usb-clears, tx-clears, rx-clears}
-use Rattle.common_impl.specs.Common.{numbers}
+use Rattle.laws.specs.Lists.{numbers}
 use Rattle.record.specs.declared.Flags.{Flags}
 use Rattle.usb_device_interrupt.specs.declared.Snapshot.{Snapshot}
 use Rattle.usb_device_interrupt.specs.Interrupt.{snapshotOf, cleared, busTaken, raisedIf, endpointTaken, endpointsTaken, taken}

@@ -2,12 +2,12 @@
 -- Assumes nothing.
 use Prim.Native.Nat.{ℕ, _-_}
 use mathlib.Core.Bool.{Bool, true, false, _||_, cond}
-use mathlib.Core.List.{List, [], _∷_, foldl}
+use mathlib.Core.List.{foldl}
 use Rattle.laws.specs.Words.{bit, raised}
 use Rattle.board.specs.declared.Direction.the-variants.{Out, In}
 use Rattle.regs.specs.declared.Regs.{Regs}
 use Rattle.events.specs.Events.{intrusbCleared, intrCleared, intrOf}
-use Rattle.common_impl.specs.Common.{numbers}
+use Rattle.laws.specs.Lists.{numbers}
 use Rattle.record.specs.declared.Flags.{Flags}
 use Rattle.record.specs.declared.Refusal.the-variants.{BadRecord}
 use Rattle.record.specs.declared.Record.{Record}

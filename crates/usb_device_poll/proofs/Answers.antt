@@ -9,7 +9,7 @@ use lib.Dec.{ltb}
 use lib.ListN.{length}
 use borrow.Author.Tests.{lt-ltb, le-ltb, ltb-true, ltb-false}
 use Rattle.stores.specs.Stores.{log}
-use Rattle.common_impl.specs.Common.{checkOverrun}
+use Rattle.overrun.specs.Common.{checkOverrun}
 use Rattle.record.specs.declared.Record.{Record}
 use Rattle.record.specs.Record.{recordSound, entryBy}
 use Rattle.usb_device_poll.specs.Poll.{PollOutcome, ended, walkedOn, acceptedOn, roundOut, pollBy, pollLogged, pollServed, pollWhen, pollCall, pollNumber}

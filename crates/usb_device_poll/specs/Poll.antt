@@ -7,21 +7,21 @@ use lib.Dec.{ltb}
 use lib.ListN.{length}
 use Rattle.regs.specs.declared.Regs.{Regs}
 use Rattle.stores.specs.Stores.{Log, log}
-use Rattle.common_impl.specs.Common.{checkOverrun}
+use Rattle.overrun.specs.Common.{checkOverrun}
 use Rattle.control_state.specs.declared.ControlState.{ControlState}
 use Rattle.record.specs.declared.Flags.{Flags}
-use Rattle.record.specs.declared.Refusal.{Refusal}
 use Rattle.record.specs.declared.Entry.{Entry}
 use Rattle.record.specs.declared.Entry.the-variants as entry
 use Rattle.record.specs.declared.Record.{Record}
 use Rattle.record.specs.Record.{recordSound, entryBy, refusalNumber}
-use Rattle.usb_device_poll.specs.declared.Masks.{Masks}
 use Rattle.usb_device_poll.specs.declared.PollResult.{PollResult}
 use Rattle.usb_device_poll.specs.declared.PollResult.the-variants.{None, Data, Reset, Resume, Suspend}
 use Rattle.usb_device_poll.specs.declared.PollAnswer.{PollAnswer}
 use Rattle.usb_device_poll.specs.declared.PollAnswer.the-variants.{Done, Refused}
 use Rattle.usb_device_poll.specs.declared.Polled.{Polled}
-use Rattle.usb_device_poll.specs.Round.{Round, round, Walk, withReset, withResume, withTx, withRx, endpointZero, acceptStep, walked, told}
+use Rattle.poll_zero.specs.Round.{Round, round, withTx, withRx, endpointZero, acceptStep}
+use Rattle.poll_walk.specs.Round.{Walk, walked}
+use Rattle.usb_device_poll.specs.Round.{withReset, withResume, told}
 
 pub record PollOutcome : Type 0 where
   pub result : Polled

@@ -1,25 +1,12 @@
--- The steps of one round of `poll`: endpoint 0, the Accepted step, the walk of the receive flags, and the three masks.
+-- What a round of `poll` tells: its three masks. And the flags with one put down.
 -- Assumes nothing.
 use Prim.Native.Nat.{ℕ}
-use mathlib.Core.Bool.{Bool, true, false, not, _||_, cond}
-use mathlib.Core.List.{List, [], _∷_, foldl}
+use mathlib.Core.Bool.{Bool, not, _||_, cond}
 use lib.Dec.{eqb}
-use Rattle.laws.specs.Words.{bit, raised, clear, setBits}
-use Rattle.regs.specs.declared.Regs.{Regs}
-use Rattle.regs.specs.declared.control.Csr0lSet.the-variants.{ServicedSetupEnd}
-use Rattle.regs.specs.Control.{csr0lRead, rxcsrlRead, count0}
-use Rattle.stores.specs.Stores.{Log, writeIndex, modifyCsr0l}
-use Rattle.control_state.specs.declared.ControlState.{ControlState}
-use Rattle.control_state.specs.declared.ControlStateEnum.{ControlStateEnum}
-use Rattle.control_state.specs.declared.ControlStateEnum.the-variants.{Idle, Setup, DataIn, DataOut, Accepted, NodataPhase}
-use Rattle.control_state.specs.Control.{withState, withTxLen}
 use Rattle.record.specs.declared.Flags.{Flags}
 use Rattle.usb_device_poll.specs.declared.Masks.{Masks}
 use Rattle.usb_device_poll.specs.declared.PollResult.{PollResult}
 use Rattle.usb_device_poll.specs.declared.PollResult.the-variants.{None, Data}
-use Rattle.usb_device_poll.specs.declared.Progress.{Progress}
-use Rattle.usb_device_poll.specs.declared.Walked.{Walked}
-use Rattle.usb_device_poll.specs.declared.Stepped.{Stepped}
 
 -- the flags with one part changed
 abbrev pub withReset : Flags → Bool → Flags
@@ -27,117 +14,6 @@ withReset f b = record { reset = b; suspend = f .suspend; resume = f .resume; ep
 
 abbrev pub withResume : Flags → Bool → Flags
 withResume f b = record { reset = f .reset; suspend = f .suspend; resume = b; ep0 = f .ep0; «ep_tx» = f .«ep_tx»; «ep_rx» = f .«ep_rx» }
-
-abbrev pub withEp0 : Flags → Bool → Flags
-withEp0 f b = record { reset = f .reset; suspend = f .suspend; resume = f .resume; ep0 = b; «ep_tx» = f .«ep_tx»; «ep_rx» = f .«ep_rx» }
-
-abbrev pub withTx : Flags → ℕ → Flags
-withTx f w = record { reset = f .reset; suspend = f .suspend; resume = f .resume; ep0 = f .ep0; «ep_tx» = w; «ep_rx» = f .«ep_rx» }
-
-abbrev pub withRx : Flags → ℕ → Flags
-withRx f w = record { reset = f .reset; suspend = f .suspend; resume = f .resume; ep0 = f .ep0; «ep_tx» = f .«ep_tx»; «ep_rx» = w }
-
--- what the steps of a round change: the log, the control state, the flags, and the source's `setup`
-pub record Round : Type 0 where
-  pub log : Log
-  pub control : ControlState
-  pub irq : Flags
-  pub setup : Bool
-
-abbrev pub round : Log → ControlState → Flags → Bool → Round
-round g c f s = record { log = g; control = c; irq = f; setup = s }
-
--- what a function of the code gives back, with its list
-abbrev pub roundOf : Progress → List ℕ → Round
-roundOf o l = record { log = record { regs = o .regs; list = l; count = o .n }; control = o .«control_state»; irq = o .irq; setup = o .setup }
-
--- `(false, false)`: in DataIn "interrupt generated due to a packet has been transmitted"
-unfoldable pub sentBy : ControlStateEnum → Flags → Flags
-sentBy DataIn f = withTx f (raised (f .«ep_tx») 0)
-sentBy Idle f = f
-sentBy Setup f = f
-sentBy DataOut f = f
-sentBy Accepted f = f
-sentBy NodataPhase f = f
-
--- a packet of eight bytes in Idle is a Setup packet: `match count { 8 => .., _ => warn!(..) }`
-unfoldable pub setupTaken : Log → ControlState → Flags → Round
-setupTaken g c f =
-    cond (eqb (count0 (g .regs)) 8) (round (modifyCsr0l ServicedSetupEnd g) (withState c Setup) f true) (round g c f false)
-
--- in DataIn the packet that follows `setup_end`: serviced, Idle and nothing remaining, and then Setup where it has eight bytes
-unfoldable pub restarted : Log → ControlState → Flags → Round
-restarted g c f =
-    cond (eqb (count0 (g .regs)) 8)
-    (round (modifyCsr0l ServicedSetupEnd g) (withState (withTxLen (withState c Idle) 0) Setup) f true)
-    (round (modifyCsr0l ServicedSetupEnd g) (withTxLen (withState c Idle) 0) f false)
-
-unfoldable pub cutShort : Log → ControlState → Flags → Round
-cutShort g c f = cond (csr0lRead (g .regs) .«setup_end») (restarted g c f) (round g c f false)
-
--- `(true, _)`: a packet waits at endpoint 0
-unfoldable pub receivedBy : ControlStateEnum → Log → ControlState → Flags → Round
-receivedBy Idle g c f = setupTaken g c f
-receivedBy DataOut g c f = round g c (withRx f (raised (f .«ep_rx») 0)) false
-receivedBy DataIn g c f = cutShort g c f
-receivedBy Setup g c f = round g c f false
-receivedBy Accepted g c f = round g c f false
-receivedBy NodataPhase g c f = round g c f false
-
--- `match (rx_pkt_rdy, tx_pkt_rdy)`, after `IRQ_EP0.store(false, ..)`, which stands in each of its cases
-abbrev pub zeroBy : Bool → Bool → Log → ControlState → Flags → Round
-zeroBy true tx g c f = receivedBy (c .state) g c f
-zeroBy false false g c f = round g c (sentBy (c .state) f) false
-zeroBy false true g c f = round g c f false
-
-unfoldable pub zeroServed : Log → ControlState → Flags → Round
-zeroServed g c f = zeroBy (csr0lRead (g .regs) .«rx_pkt_rdy») (csr0lRead (g .regs) .«tx_pkt_rdy») g c (withEp0 f false)
-
--- `if IRQ_EP0.load(..) { index().write(0) .. }`
-unfoldable pub endpointZero : Log → ControlState → Flags → Round
-endpointZero g c f = cond (f .ep0) (zeroServed (writeIndex 0 g) c f) (round g c f false)
-
--- the Accepted step: a receive flag of endpoint 0 "will be addressed in the next poll"
-unfoldable pub putBack : Flags → Flags
-putBack f = cond (bit (f .«ep_rx») 0) (withRx (withEp0 f true) (clear (f .«ep_rx») 0)) f
-
-unfoldable pub acceptedBy : ControlStateEnum → ControlState → Flags → Stepped
-acceptedBy Accepted c f = record { «control_state» = withState c Idle; irq = withTx (putBack f) (raised (putBack f .«ep_tx») 0) }
-acceptedBy Idle c f = record { «control_state» = c; irq = f }
-acceptedBy Setup c f = record { «control_state» = c; irq = f }
-acceptedBy DataIn c f = record { «control_state» = c; irq = f }
-acceptedBy DataOut c f = record { «control_state» = c; irq = f }
-acceptedBy NodataPhase c f = record { «control_state» = c; irq = f }
-
-unfoldable pub acceptStep : ControlState → Flags → Stepped
-acceptStep c f = acceptedBy (c .state) c f
-
--- the walk's RxPktRdy, read after the index store: CSR0L's for endpoint 0, RXCSRL's for the others
-unfoldable pub readyAt : ℕ → Regs → Bool
-readyAt e r = cond (eqb e 0) (csr0lRead r .«rx_pkt_rdy») (rxcsrlRead r .«rx_pkt_rdy»)
-
--- the log and the receive flags on the way
-pub record Walk : Type 0 where
-  pub log : Log
-  pub out : ℕ
-
-abbrev pub walk : Log → ℕ → Walk
-walk g out = record { log = g; out = out }
-
-abbrev pub walkOf : Walked → List ℕ → Walk
-walkOf o l = record { log = record { regs = o .regs; list = l; count = o .n }; out = o .out }
-
--- `IRQ_EP_RX.store(rx_flags & !(1 << index), ..)`: "Each drained flag is cleared from the flags as first read, so one round clears only
--- the highest drained one."
-unfoldable pub drained : ℕ → ℕ → ℕ → Regs → ℕ
-drained flags out e r = cond (readyAt e r) out (clear flags e)
-
-unfoldable pub visit : ℕ → Walk → ℕ → Walk
-visit flags o e = walk (writeIndex e (o .log)) (drained flags (o .out) e (writeIndex e (o .log) .regs))
-
--- "a walk of receive flags from the lowest set bit"
-unfoldable pub walked : ℕ → Log → Walk
-walked flags g = foldl (visit flags) (walk g flags) (setBits flags)
 
 -- `if in_complete != 0 || out != 0 || setup { Data { .. } } else { None }`
 abbrev pub masks : ℕ → ℕ → Bool → Masks

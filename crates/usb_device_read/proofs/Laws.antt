@@ -1,34 +1,32 @@
 -- From the promises of a function's steps to its definition, a law for each way through it. Assumes nothing.
-use Prim.Native.Nat.{ℕ, min, _<_, _≤_}
-use mathlib.Core.Path.{_≡_, refl, sym, ap, _∙_}
-use mathlib.Core.Bool.{Bool, true}
+use Prim.Native.Nat.{ℕ, min, _≤_}
+use mathlib.Core.Path.{_≡_, sym, ap, _∙_}
+use mathlib.Core.Bool.{true}
 use mathlib.Core.List.{List}
-use borrow.Author.Tests.{eq-eqb, ne-eqb, lt-ltb, le-ltb}
+use borrow.Author.Tests.{eq-eqb, ne-eqb}
 use lib.ListN.{length, take, drop}
 use Rattle.laws.specs.Lists.{pasted}
 use Rattle.board.specs.declared.Span.{Span}
 use Rattle.board.specs.declared.Direction.the-variants.{Out}
-use Rattle.regs.specs.declared.control.Csr0lSet.the-variants as csr0l
-use Rattle.regs.specs.declared.control.RxcsrlSet.the-variants as rxcsrl
+use Rattle.csr.specs.declared.RxcsrlSet.the-variants as rxcsrl
 use Rattle.regs.specs.Registers.{withIndex}
 use Rattle.stores.specs.declared.Logged.{Logged}
-use Rattle.stores.specs.Stores.{Log, log, logOf, writeIndex, modifyCsr0l, modifyRxcsrl}
+use Rattle.stores.specs.Stores.{Log, log, logOf, writeIndex, modifyRxcsrl}
 use Rattle.peek.specs.Peek.{rxCount}
 use Rattle.peek.proofs.Readings as readings
-use Rattle.control_state.specs.Control.{withState}
-use Rattle.control_state.specs.declared.ControlState.{ControlState}
-use Rattle.control_state.specs.declared.ControlStateEnum.{ControlStateEnum}
-use Rattle.control_state.specs.declared.ControlStateEnum.the-variants.{Idle, NodataPhase}
 use Rattle.record.specs.declared.Record.{Record}
 use Rattle.record.specs.declared.Refusal.{Refusal}
 use Rattle.record.specs.declared.Refusal.the-variants.{WouldBlock}
-use Rattle.record.specs.Record.{areaOf, recordSound, withRegs, withControl}
+use Rattle.record.specs.Record.{areaOf, recordSound, withRegs}
 use Rattle.record.proofs.Passing.{record-is-sound, waiting-fits}
-use Rattle.usb_device_read.specs.declared.Got.the-variants.{Refused}
-use Rattle.usb_device_read.specs.declared.Fetched.{Fetched}
-use Rattle.usb_device_read.specs.declared.Verdict.{Verdict}
-use Rattle.usb_device_read.specs.declared.Verdict.the-variants as verdict
-use Rattle.usb_device_read.specs.Read.{ReadOutcome, Ran, ran, leaving, finished, done, waiting, tests, blocked, copied, ended, wLength, wayIn, afterSetup, setUp, rxSize, dataOut, zeroBy, readZero, readOther, got, taken, readBy, readCall}
+use Rattle.read_zero.specs.declared.Got.the-variants.{Refused}
+use Rattle.read_zero.specs.declared.Fetched.{Fetched}
+use Rattle.read_tests.specs.declared.Verdict.{Verdict}
+use Rattle.read_tests.specs.declared.Verdict.the-variants as verdict
+use Rattle.usb_device_read.specs.Read.{ReadOutcome, leaving, copied, readOther, got, taken, readBy, readCall}
+use Rattle.read_zero.specs.Read.{ran, finished, blocked, readZero}
+use Rattle.read_tests.specs.Read.{waiting, tests}
+use Rattle.read_zero.proofs.Laws.{done-by}
 
 -- reply 6
 pub blocked-at : (k : Record) (ep : ℕ) (l : List ℕ) {a : Logged} {m : List ℕ} → logOf a m ≡ writeIndex ep (log (k .regs) l 0)
@@ -47,60 +45,11 @@ module _ (k : Record) (ep : ℕ) {n : ℕ} {s : Span} (count : n ≡ rxCount ep 
       p ∙ ap (λ (m : ℕ). pasted b 0 (take (min m (length b)) (drop (s .start) f))) count
       ∙ ap (λ (t : Span). pasted b 0 (take (min (rxCount ep (withIndex (k .regs) ep)) (length b)) (drop (t .start) f))) is
 
--- what is given back after the last store
-module _ (n : ℕ) (k : Record) {o : Fetched} {a : Logged} {l : List ℕ} where
-  pub done-by : {g : Log} → logOf a l ≡ g → o ≡ finished n k (a .regs) (a .n) → ran o l ≡ done n k g
-  done-by p q = ap (λ (w : Fetched). ran w l) q ∙ ap (done n k) p
-
-  -- .. where the record was changed before
-  pub done-from : {q : Record} → o ≡ finished n q (a .regs) (a .n) → q ≡ k → ran o l ≡ done n k (logOf a l)
-  done-from p e = ap (λ (w : Fetched). ran w l) (p ∙ ap (λ (r : Record). finished n r (a .regs) (a .n)) e)
-
 module _ (n : ℕ) (k : Record) (g : Log) where
-  pub ended-by : (c : ControlState) {o : Fetched} {b : Logged} {l : List ℕ} {q : Record} → logOf b l ≡ modifyCsr0l csr0l.DataEnd g → q ≡ withControl k c
-      → o ≡ finished n q (b .regs) (b .n) → ran o l ≡ ended c n k g
-  unfolding ended
-  ended-by c {b = b} {l = l} p e h =
-      ap (λ (w : Fetched). ran w l) (h ∙ ap (λ (r : Record). finished n r (b .regs) (b .n)) e) ∙ ap (done n (withControl k c)) p
-
   pub other-by : {o : Fetched} {b : Logged} {l : List ℕ} → logOf b l ≡ modifyRxcsrl rxcsrl.NoRxPktRdy g
       → o ≡ finished n k (b .regs) (b .n) → ran o l ≡ readOther n k g
   unfolding readOther
   other-by p h = done-by n k p h
-
-  pub zero-by : (b : List ℕ) {a : Log} {o : Ran} → a ≡ modifyCsr0l csr0l.ServicedRxPktRdy g → o ≡ zeroBy (k .«control_state» .state) b n k a → o ≡ readZero b n k g
-  unfolding readZero
-  zero-by b p q = q ∙ ap (zeroBy (k .«control_state» .state) b n k) p
-
-  -- a Setup packet that announces no data, and a last packet of data
-  pub set-up-none : (b : List ℕ) {o : Ran} {c : ControlState} {w : ℕ} → w ≡ wLength b → w ≡ 0 → c ≡ withState (k .«control_state») NodataPhase
-      → o ≡ ended c n k g → o ≡ setUp b n k g
-  unfolding setUp
-  set-up-none b is z e p = rw (eq-eqb (wLength b) 0 (sym is ∙ z)) (p ∙ ap (λ (c : ControlState). ended c n k g) e)
-
-  pub out-short : {o : Ran} {c : ControlState} {size : ℕ} → size ≡ rxSize k → n < size → c ≡ withState (k .«control_state») Idle → o ≡ ended c n k g
-      → o ≡ dataOut n k g
-  unfolding dataOut
-  out-short is h e p = rw (lt-ltb n (rxSize k) (rw is at h)) (p ∙ ap (λ (c : ControlState). ended c n k g) e)
-
-  -- endpoint 0, by its state
-  pub by-state : (b : List ℕ) {o : Ran} {s : ControlStateEnum} → k .«control_state» .state ≡ s → o ≡ zeroBy s b n k g
-      → o ≡ zeroBy (k .«control_state» .state) b n k g
-  by-state b e p = p ∙ ap (λ (s : ControlStateEnum). zeroBy s b n k g) (sym e)
-
--- more is to come
-module _ (n : ℕ) (k : Record) {o : Fetched} {a : Logged} {l : List ℕ} where
-  pub set-up-some : (b : List ℕ) {q : Record} {next : ControlState} {t : Bool} {w : ℕ} → w ≡ wLength b → (w ≡ 0 → ⊥) → t ≡ wayIn b
-      → next ≡ afterSetup (k .«control_state») t w → q ≡ withControl k next → o ≡ finished n q (a .regs) (a .n) → ran o l ≡ setUp b n k (logOf a l)
-  unfolding setUp
-  set-up-some b {t = t} is more to e at p =
-      rw (ne-eqb (wLength b) 0 (λ (z : wLength b ≡ 0). more (is ∙ z)))
-      (done-from n (withControl k (afterSetup (k .«control_state») (wayIn b) (wLength b))) p
-      (at ∙ ap (withControl k) (e ∙ ap (afterSetup (k .«control_state») t) is ∙ ap (λ (u : Bool). afterSetup (k .«control_state») u (wLength b)) to)))
-
-  pub out-full : {size : ℕ} → size ≡ rxSize k → size ≤ n → o ≡ finished n k (a .regs) (a .n) → ran o l ≡ dataOut n k (logOf a l)
-  unfolding dataOut
-  out-full is h p = rw (le-ltb n (rxSize k) (rw is at h)) (done-from n k p refl)
 
 -- the two kinds of endpoint
 module _ (k : Record) (ep : ℕ) (f l b : List ℕ) {n : ℕ} {a : Log} {r : Fetched} {m x : List ℕ} (is : a ≡ writeIndex ep (log (k .regs) l 0))

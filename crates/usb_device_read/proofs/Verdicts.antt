@@ -9,9 +9,9 @@ use Rattle.peek.specs.Peek.{short}
 use Rattle.peek.proofs.Lent.{lent-enough}
 use Rattle.record.specs.declared.Record.{Record}
 use Rattle.record.specs.Record.{needOf, endpointsOf, recordSound, refusalNumber, entryBy}
-use Rattle.usb_device_read.specs.declared.Verdict.{Verdict}
-use Rattle.usb_device_read.specs.declared.Verdict.the-variants.{Clear, Blocked, Refused}
-use Rattle.usb_device_read.specs.Read.{notReadable, notSetup, ownTests, ownTestsAt, testsBy, tests}
+use Rattle.read_tests.specs.declared.Verdict.{Verdict}
+use Rattle.read_tests.specs.declared.Verdict.the-variants.{Clear, Blocked, Refused}
+use Rattle.read_tests.specs.Read.{notReadable, notSetup, ownTests, ownTestsAt, testsBy, tests}
 use Rattle.usb_device_read.specs.Replies.{unready, Given, done, blocks, beyond, unreadable, unset, little, unsound}
 
 abbrev pub verdictNumber : Verdict → ℕ

@@ -7,44 +7,21 @@ use mathlib.Core.Logic.{_↔_}
 use mathlib.Core.Bool.{Bool, true, false, cond}
 use mathlib.Core.List.{List}
 use native.Mathlib.Omega.{arith}
-use lib.Dec.{eqb, ltb}
+use lib.Dec.{eqb}
 use lib.ListN.{length}
-use Rattle.regs.specs.declared.control.Csr0lSet.the-variants.{TxPktRdy}
-use Rattle.stores.specs.Stores.{Log, log, modifyCsr0l}
-use Rattle.control_state.specs.Control.{withState, withTxLen, decreased}
-use Rattle.control_state.specs.declared.ControlState.{ControlState}
-use Rattle.control_state.specs.declared.ControlStateEnum.{ControlStateEnum}
-use Rattle.control_state.specs.declared.ControlStateEnum.the-variants.{Idle, Setup, DataIn, DataOut, Accepted, NodataPhase}
+use Rattle.stores.specs.Stores.{Log, log}
 use Rattle.record.specs.declared.Record.{Record}
 use Rattle.record.specs.declared.Refusal.{Refusal}
 use Rattle.record.specs.declared.Refusal.the-variants.{WouldBlock}
-use Rattle.record.specs.Record.{withControl}
-use Rattle.usb_device_write.specs.declared.Wrote.the-variants.{Done, Refused}
-use Rattle.usb_device_write.specs.declared.Verdict.{Verdict}
-use Rattle.usb_device_write.specs.declared.Verdict.the-variants as verdict
-use Rattle.usb_device_write.specs.Write.{wroteNumber, leaving, done, tests, blocked, refused, loaded, ended, endsBy, txSize, dataIn, sentDataIn, sentZero, sentOther, sent, taken, writeBy, writeCall}
+use Rattle.write_zero.specs.declared.Wrote.the-variants.{Done, Refused}
+use Rattle.write_tests.specs.declared.Verdict.{Verdict}
+use Rattle.write_tests.specs.declared.Verdict.the-variants as verdict
+use Rattle.write_zero.specs.Write.{wroteNumber, blocked, sentZero}
+use Rattle.usb_device_write.specs.Write.{leaving, refused, loaded, sentOther, sent, taken, writeBy, writeCall}
+use Rattle.write_tests.specs.Write.{tests}
 use Rattle.usb_device_write.specs.Replies.{Given}
 use Rattle.usb_device_write.proofs.Verdicts.{verdictNumber, meets, decides, is-blocked}
-
--- a packet that is taken is done, whatever the state
-ends-done : (c : ControlState) (n : ℕ) (k : Record) (g : Log) → endsBy c n k g .result .answer ≡ Done n
-unfolding ended
-ends-done c n k g = go (eqb (c .«tx_len») 0) (ltb n (txSize k))
-  where
-    go : (a b : Bool)
-        → cond a (ended (withState c Idle) n k g) (cond b (ended (withTxLen (withState c Idle) 0) n k g) (done n (withControl k c) g)) .result .answer ≡ Done n
-    go true b = refl
-    go false true = refl
-    go false false = refl
-
-zero-done : (s : ControlStateEnum) (n : ℕ) (k : Record) (g : Log) → sentZero s n k g .result .answer ≡ Done n
-unfolding sentDataIn dataIn
-zero-done Idle n k g = refl
-zero-done Setup n k g = refl
-zero-done DataIn n k g = ends-done (decreased (k .«control_state») n) n k (modifyCsr0l TxPktRdy g)
-zero-done DataOut n k g = refl
-zero-done Accepted n k g = refl
-zero-done NodataPhase n k g = refl
+use Rattle.write_zero.proofs.Answers.{zero-done}
 
 sent-done : (k : Record) (ep n : ℕ) (g : Log) → sent k ep n g .result .answer ≡ Done n
 unfolding sent sentOther

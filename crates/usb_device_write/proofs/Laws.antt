@@ -3,31 +3,30 @@ use Prim.Native.Nat.{ℕ, _<_, _≤_}
 use mathlib.Core.Path.{_≡_, sym, ap, subst, _∙_}
 use mathlib.Core.List.{List}
 use native.Mathlib.Omega.{arith}
-use borrow.Author.Tests.{eq-eqb, ne-eqb, lt-ltb, le-ltb}
+use borrow.Author.Tests.{eq-eqb, ne-eqb}
 use lib.ListN.{length}
 use Rattle.laws.specs.Lists.{pasted}
 use Rattle.board.specs.declared.Span.{Span}
 use Rattle.board.specs.declared.Direction.the-variants.{In}
-use Rattle.regs.specs.declared.Side.{Side}
+use Rattle.csr.specs.declared.Side.{Side}
 use Rattle.regs.specs.declared.Regs.{Regs}
-use Rattle.regs.specs.declared.control.Csr0lSet.the-variants as csr0l
-use Rattle.regs.specs.declared.control.TxcsrlSet.the-variants as txcsrl
+use Rattle.csr.specs.declared.TxcsrlSet.the-variants as txcsrl
 use Rattle.stores.specs.declared.Logged.{Logged}
-use Rattle.stores.specs.Stores.{Log, log, logOf, selectListed, writeIndex, writePacket, modifyCsr0l, modifyTxcsrl, OnSide}
+use Rattle.stores.specs.Stores.{Log, log, logOf, writeIndex, writePacket, modifyTxcsrl, OnSide}
+use Rattle.store_list.specs.Stores.{selectListed}
 use Rattle.stores.proofs.OnSides.{and-then}
-use Rattle.control_state.specs.Control.{withState, withTxLen, decreased}
-use Rattle.control_state.specs.declared.ControlState.{ControlState}
-use Rattle.control_state.specs.declared.ControlStateEnum.{ControlStateEnum}
-use Rattle.control_state.specs.declared.ControlStateEnum.the-variants.{Idle}
 use Rattle.record.specs.declared.Record.{Record}
 use Rattle.record.specs.declared.Refusal.{Refusal}
 use Rattle.record.specs.declared.Refusal.the-variants.{WouldBlock}
-use Rattle.record.specs.Record.{areaOf, withRegs, withControl}
-use Rattle.usb_device_write.specs.declared.Wrote.the-variants.{Refused}
-use Rattle.usb_device_write.specs.declared.Written.{Written}
-use Rattle.usb_device_write.specs.declared.Verdict.{Verdict}
-use Rattle.usb_device_write.specs.declared.Verdict.the-variants as verdict
-use Rattle.usb_device_write.specs.Write.{WriteOutcome, Ran, ran, leaving, finished, done, tests, blocked, loaded, filled, ended, endsBy, txSize, dataIn, sentDataIn, sentZero, sentOther, sent, taken, writeBy, writeCall}
+use Rattle.record.specs.Record.{areaOf, withRegs}
+use Rattle.write_zero.specs.declared.Wrote.the-variants.{Refused}
+use Rattle.write_zero.specs.declared.Written.{Written}
+use Rattle.write_tests.specs.declared.Verdict.{Verdict}
+use Rattle.write_tests.specs.declared.Verdict.the-variants as verdict
+use Rattle.usb_device_write.specs.Write.{WriteOutcome, leaving, loaded, filled, sentOther, sent, taken, writeBy, writeCall}
+use Rattle.write_zero.specs.Write.{ran, finished, blocked, sentZero}
+use Rattle.write_tests.specs.Write.{tests}
+use Rattle.write_zero.proofs.Laws.{done-by}
 
 -- reply 6
 pub blocked-at : (k : Record) (ep : ℕ) (l : List ℕ) {a : Logged} {m : List ℕ} → logOf a m ≡ writeIndex ep (log (k .regs) l 0)
@@ -50,64 +49,10 @@ filled-by size ep s l {u = u} {k = k} {n = n} {m = m} at a b =
     (subst (λ (x : List ℕ). OnSide (filled size) In ep s x n u k m) (at .1)
     (record { leads = and-then (writePacket size) (modifyTxcsrl txcsrl.TxPktRdy) In ep a b .leads }))
 
--- what is given back after the last store
-module _ (n : ℕ) (k : Record) {o : Written} {a : Logged} {l : List ℕ} where
-  pub done-by : {g : Log} → logOf a l ≡ g → o ≡ finished n k (a .regs) (a .n) → ran o l ≡ done n k g
-  done-by p q = ap (λ (w : Written). ran w l) q ∙ ap (done n k) p
-
-  -- .. where the record was changed before
-  pub done-from : {q : Record} → o ≡ finished n q (a .regs) (a .n) → q ≡ k → ran o l ≡ done n k (logOf a l)
-  done-from p e = ap (λ (w : Written). ran w l) (p ∙ ap (λ (r : Record). finished n r (a .regs) (a .n)) e)
-
 pub other-filled : (k : Record) (ep n : ℕ) (l : List ℕ) {o : Written} {r : Regs} {m : List ℕ} {c : ℕ} → log r m c ≡ filled n (writeIndex ep (log (k .regs) l 0))
     → o ≡ finished n k r c → ran o m ≡ sentOther n k (loaded ep n (log (k .regs) l 0))
 unfolding filled sentOther loaded
 other-filled k ep n l {r = r} {c = c} p h = done-by n k {a = record { regs = r; n = c }} p h
-
-module _ (n : ℕ) (k : Record) (g : Log) where
-  pub ended-by : (c : ControlState) {o : Written} {b : Logged} {l : List ℕ} {q : Record} → logOf b l ≡ modifyCsr0l csr0l.DataEnd g → q ≡ withControl k c
-      → o ≡ finished n q (b .regs) (b .n) → ran o l ≡ ended c n k g
-  unfolding ended
-  ended-by c {b = b} {l = l} p e h =
-      ap (λ (w : Written). ran w l) (h ∙ ap (λ (r : Record). finished n r (b .regs) (b .n)) e) ∙ ap (done n (withControl k c)) p
-
-  pub data-in-by : {a : Log} {o : Ran} → a ≡ modifyCsr0l csr0l.TxPktRdy g → o ≡ dataIn n k a → o ≡ sentDataIn n k g
-  unfolding sentDataIn
-  data-in-by p q = q ∙ ap (dataIn n k) p
-
-  -- the three ways out of DataIn
-  module _ {o : Ran} {left idle : ControlState} (is : left ≡ decreased (k .«control_state») n) (to : idle ≡ withState left Idle) where
-    none-left : left .«tx_len» ≡ 0 → o ≡ ended idle n k g → o ≡ endsBy left n k g
-    none-left z p = rw (eq-eqb (left .«tx_len») 0 z) (p ∙ ap (λ (c : ControlState). ended c n k g) to)
-
-    pub all-sent : left .«tx_len» ≡ 0 → o ≡ ended idle n k g → o ≡ dataIn n k g
-    unfolding dataIn
-    all-sent z p = none-left z p ∙ ap (λ (c : ControlState). endsBy c n k g) is
-
-    packet-short : {z : ControlState} → (left .«tx_len» ≡ 0 → ⊥) → n < txSize k → z ≡ withTxLen idle 0 → o ≡ ended z n k g → o ≡ endsBy left n k g
-    packet-short more h e p =
-        rw (ne-eqb (left .«tx_len») 0 more, lt-ltb n (txSize k) h)
-        (p ∙ ap (λ (c : ControlState). ended c n k g) (e ∙ ap (λ (c : ControlState). withTxLen c 0) to))
-
-    pub short-sent : {z : ControlState} {size : ℕ} → (left .«tx_len» ≡ 0 → ⊥) → size ≡ txSize k → n < size → z ≡ withTxLen idle 0 → o ≡ ended z n k g
-        → o ≡ dataIn n k g
-    unfolding dataIn
-    short-sent more s h e p = packet-short more (rw s at h) e p ∙ ap (λ (c : ControlState). endsBy c n k g) is
-
-  packet-full : {o : Ran} {left : ControlState} → (left .«tx_len» ≡ 0 → ⊥) → txSize k ≤ n → o ≡ done n (withControl k left) g → o ≡ endsBy left n k g
-  packet-full {left = left} more h p = rw (ne-eqb (left .«tx_len») 0 more, le-ltb n (txSize k) h) p
-
-pub more-to-send : (n : ℕ) (k : Record) {o : Written} {a : Logged} {l : List ℕ} {left : ControlState} {q : Record} {size : ℕ}
-    → left ≡ decreased (k .«control_state») n → (left .«tx_len» ≡ 0 → ⊥) → size ≡ txSize k → size ≤ n → q ≡ withControl k left
-    → o ≡ finished n q (a .regs) (a .n) → ran o l ≡ dataIn n k (logOf a l)
-unfolding dataIn
-more-to-send n k {a = a} {l = l} {left = left} is more s h e p =
-    packet-full n k (logOf a l) more (rw s at h) (done-from n (withControl k left) p e) ∙ ap (λ (c : ControlState). endsBy c n k (logOf a l)) is
-
--- endpoint 0, by its state
-pub by-state : (n : ℕ) (k : Record) (g : Log) {o : Ran} {s : ControlStateEnum} → k .«control_state» .state ≡ s → o ≡ sentZero s n k g
-    → o ≡ sentZero (k .«control_state» .state) n k g
-by-state n k g e p = p ∙ ap (λ (s : ControlStateEnum). sentZero s n k g) (sym e)
 
 -- the two kinds of endpoint
 module _ (k : Record) (ep : ℕ) (b f l : List ℕ) {a : Log} {r : Written} {m x : List ℕ} (is : a ≡ loaded ep (length b) (log (k .regs) l 0))

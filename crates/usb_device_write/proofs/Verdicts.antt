@@ -13,9 +13,9 @@ use Rattle.peek.proofs.Lent.{lent-enough}
 use Rattle.peek.proofs.Sides.{below-six}
 use Rattle.record.specs.declared.Record.{Record}
 use Rattle.record.specs.Record.{areaOf, needOf, endpointsOf, recordSound, refusalNumber, entryBy}
-use Rattle.usb_device_write.specs.declared.Verdict.{Verdict}
-use Rattle.usb_device_write.specs.declared.Verdict.the-variants.{Clear, Blocked, Refused}
-use Rattle.usb_device_write.specs.Write.{tooLong, notWritable, ownTests, ownTestsAt, testsBy, tests}
+use Rattle.write_tests.specs.declared.Verdict.{Verdict}
+use Rattle.write_tests.specs.declared.Verdict.the-variants.{Clear, Blocked, Refused}
+use Rattle.write_tests.specs.Write.{tooLong, notWritable, ownTests, ownTestsAt, testsBy, tests}
 use Rattle.usb_device_write.specs.Replies.{unready, Given, done, blocks, beyond, long, untaken, little, unsound}
 
 abbrev pub verdictNumber : Verdict → ℕ

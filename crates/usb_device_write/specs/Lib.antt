@@ -1,3 +1,2 @@
 pub mod Write
 pub mod Replies
-pub mod Cases

@@ -5,9 +5,9 @@ use Prim.Native.Nat.{_-_}
 use native.Mathlib.Omega.{arith}
 use borrow.Author.Needs.{needs}
 use Rattle.board.specs.Boards.{rows, at-most-six}
-use Rattle.alloc_endpoint.specs.Endpoints.{ask}
+use Rattle.endpoints.specs.Endpoints.{ask}
 use Rattle.alloc_endpoint.specs.Allocate.{firstFrom, answerTo}
-use Rattle.alloc_endpoint.specs.declared.Wanted.the-variants.{Any}
+use Rattle.endpoints.specs.declared.Wanted.the-variants.{Any}
 use Rattle.alloc_endpoint.proofs.Laws.{at-end, stops, goes-on}
 use Rattle.alloc_endpoint.proofs.alloc_any.Statement.{statement}
 use Rattle.alloc_endpoint.proofs.alloc_any.Tie as tie

@@ -1,6 +1,6 @@
 -- `details::csr0l_number` meets its contract.
 -- Assumes nothing.
-use Rattle.regs.specs.Control.{csr0lNumber}
+use Rattle.csr.specs.Control.{csr0lNumber}
 use mathlib.Core.Path.{ap, _∙_}
 use Rattle.details.specs.Numbers.{csr0lAt}
 use borrow.Author.Needs.{needs}

@@ -2,8 +2,8 @@
 -- Assumes nothing.
 use Rattle.details.specs.Numbers.{ofEndpoints}
 use Rattle.details.proofs.Written.{endpoints-none, endpoints-more, endpoints-all}
-use Rattle.report.proofs.Appended.{kept}
-use Rattle.report.specs.Text.{Wrote, fields}
+use Rattle.text.proofs.Appended.{kept}
+use Rattle.text.specs.Text.{Wrote, fields}
 use Rattle.laws.proofs.Lists.{length-of}
 use native.Mathlib.Omega.{arith}
 use lib.ListN.{length}

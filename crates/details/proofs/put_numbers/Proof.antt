@@ -1,7 +1,7 @@
 -- `details::put_numbers` meets its contract: after i turns the first i numbers stand there as fields.
 -- Assumes nothing.
-use Rattle.report.proofs.Appended.{fields-none, fields-more, fields-all, kept}
-use Rattle.report.specs.Text.{Wrote, fields}
+use Rattle.text.proofs.Appended.{fields-none, fields-more, fields-all, kept}
+use Rattle.text.specs.Text.{Wrote, fields}
 use native.Mathlib.Omega.{arith}
 use lib.ListN.{length, take}
 use mathlib.Core.Path.{_≡_, refl}

@@ -2,8 +2,8 @@
 -- Assumes nothing.
 use Rattle.details.specs.Lines.{stores}
 use Rattle.details.proofs.Written.{stores-none, stores-more, stores-all}
-use Rattle.report.proofs.Appended.{kept}
-use Rattle.report.specs.Text.{Wrote}
+use Rattle.text.proofs.Appended.{kept}
+use Rattle.text.specs.Text.{Wrote}
 use native.Mathlib.Omega.{arith}
 use lib.ListN.{length}
 use mathlib.Core.Path.{_≡_}

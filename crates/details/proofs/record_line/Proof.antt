@@ -1,6 +1,6 @@
 -- `details::record_line` meets its contract.
 -- Assumes nothing.
-use Rattle.report.proofs.Appended.{then}
+use Rattle.text.proofs.Appended.{then}
 use native.Mathlib.Omega.{arith}
 use Rattle.details.specs.Lines.{recordLine}
 use borrow.Author.Needs.{needs}

@@ -1,6 +1,6 @@
 -- `details::registers_at` meets its contract.
 -- Assumes nothing.
-use Rattle.regs.specs.declared.Side.{Side}
+use Rattle.csr.specs.declared.Side.{Side}
 use mathlib.Core.Bool.{cond}
 use mathlib.Core.Path.{ap, _∙_}
 use mathlib.Core.List.{[], _∷_}

@@ -1,6 +1,6 @@
 -- `details::rxcsrl_at` meets its contract.
 -- Assumes nothing.
-use Rattle.regs.specs.Control.{rxcsrlNumber}
+use Rattle.csr.specs.Control.{rxcsrlNumber}
 use mathlib.Core.Path.{ap, _∙_}
 use Rattle.details.specs.Numbers.{rxcsrlAt}
 use borrow.Author.Needs.{needs}

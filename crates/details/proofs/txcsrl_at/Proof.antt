@@ -1,6 +1,6 @@
 -- `details::txcsrl_at` meets its contract.
 -- Assumes nothing.
-use Rattle.regs.specs.Control.{txcsrlNumber}
+use Rattle.csr.specs.Control.{txcsrlNumber}
 use mathlib.Core.Path.{ap, _∙_}
 use Rattle.details.specs.Numbers.{txcsrlAt}
 use borrow.Author.Needs.{needs}

@@ -1,7 +1,7 @@
 -- `entries::is_stalled_at` meets its contract.
 -- Assumes nothing.
 use Rattle.entries.proofs.Cases.{is-stalled-is, is-stalled-bad}
-use Rattle.entries.proofs.Ranges.{two-first}
+use Rattle.arguments.proofs.Ranges.{two-first}
 use borrow.Author.Needs.{needs}
 use Rattle.entries.proofs.is_stalled_at.Statement.{statement}
 use Rattle.entries.proofs.is_stalled_at.Tie as tie

@@ -1,7 +1,7 @@
 -- `entries::read_at` meets its contract.
 -- Assumes nothing.
 use Rattle.entries.proofs.Cases.{read-is, read-bad}
-use Rattle.entries.proofs.Ranges.{two-first}
+use Rattle.arguments.proofs.Ranges.{two-first}
 use borrow.Author.Needs.{needs}
 use Rattle.entries.proofs.read_at.Statement.{statement}
 use Rattle.entries.proofs.read_at.Tie as tie

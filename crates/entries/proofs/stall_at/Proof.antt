@@ -1,7 +1,7 @@
 -- `entries::stall_at` meets its contract.
 -- Assumes nothing.
 use Rattle.entries.proofs.Cases.{stall-is, stall-bad, stall-none}
-use Rattle.entries.proofs.Ranges.{two-first}
+use Rattle.arguments.proofs.Ranges.{two-first}
 use borrow.Author.Needs.{needs}
 use Rattle.entries.proofs.stall_at.Statement.{statement}
 use Rattle.entries.proofs.stall_at.Tie as tie

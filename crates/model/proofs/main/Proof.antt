@@ -1,49 +1,44 @@
 use borrow.Author.Needs.{needs}
-use native.Mathlib.Omega.{arith}
-use Prim.Native.Nat.{_-_}
-use mathlib.Core.Path.{_≡_, refl}
-use lib.ListN.{length}
+use Prim.Native.Nat.{_-_, _≤_}
 use Rattle.model.proofs.main.Statement.{statement}
 use Rattle.model.proofs.main.Tie as tie
-use Rattle.model.proofs.main.Reads as reads
-use Rattle.model.proofs.main.Lts as lts
-use Rattle.model.proofs.table.Reads as table-reads
 
 abbrev Inv-loop : tie.InvT-loop
-Inv-loop list₀ fifo₀ t₀ list fifo t = (length list ≡ 384) × (length fifo ≡ 1664)
+Inv-loop script n list₀ fifo₀ r₀ at₀ list fifo r at = at ≤ 4096
 
 abbrev μ-loop : tie.MeasureT-loop
-μ-loop list₀ fifo₀ t₀ list fifo t = 12 - t
+μ-loop script n list₀ fifo₀ r₀ at₀ list fifo r at = 4096 - at
 
--- src/main.rt:614:5
+slice-aggregate-read-full : tie.Need-slice-aggregate-read-full Inv-loop μ-loop
+slice-aggregate-read-full c = search needs
+
+read-full-requires : tie.Need-read-full-requires Inv-loop μ-loop
+read-full-requires c κs = search needs
+
+fresh-requires : tie.Need-fresh-requires Inv-loop μ-loop
+fresh-requires c κs = search needs
+
 loop-holds : tie.Need-loop-holds Inv-loop μ-loop
-loop-holds c = (refl, refl)
+loop-holds c = search needs
 
--- src/main.rt:615:18
-slice-aggregate-table : tie.Need-slice-aggregate-table Inv-loop μ-loop
-slice-aggregate-table c = omega arith
+add-loop : tie.Need-add-loop Inv-loop μ-loop
+add-loop c = search needs
 
--- src/main.rt:615:29
-slice-aggregate-table-2 : tie.Need-slice-aggregate-table-2 Inv-loop μ-loop
-slice-aggregate-table-2 c = omega arith
+slice-aggregate-act : tie.Need-slice-aggregate-act Inv-loop μ-loop
+slice-aggregate-act c = search needs
 
--- src/main.rt:615:9
-table-requires : tie.Need-table-requires Inv-loop μ-loop
-table-requires c κs = (omega arith, omega arith)
+act-requires : tie.Need-act-requires Inv-loop μ-loop
+act-requires c κs = search needs
 
--- src/main.rt:616:9
-add-t : tie.Need-add-t Inv-loop μ-loop
-add-t c = omega arith
+add-at : tie.Need-add-at Inv-loop μ-loop
+add-at c = search needs
 
--- src/main.rt:614:5
 loop-less : tie.Need-loop-less Inv-loop μ-loop
-loop-less c = omega arith
+loop-less c = search needs
 
--- src/main.rt:614:5
 loop-again : tie.Need-loop-again Inv-loop μ-loop
-loop-again c = (omega arith, omega arith)
+loop-again c = search needs
 
--- src/main.rt:610:1
 returns : tie.Need-returns Inv-loop μ-loop
 returns c = search needs
 
@@ -53,11 +48,14 @@ main-spec =
     (tie.spec
     Inv-loop
     μ-loop
+    slice-aggregate-read-full
+    read-full-requires
+    fresh-requires
     loop-holds
-    slice-aggregate-table
-    slice-aggregate-table-2
-    table-requires
-    add-t
+    add-loop
+    slice-aggregate-act
+    act-requires
+    add-at
     loop-less
     loop-again
     returns)

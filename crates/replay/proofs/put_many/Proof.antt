@@ -30,20 +30,20 @@ sub-least c = search needs
 least-requires : tie.Need-least-requires Inv-loop μ-loop
 least-requires c κs = search needs
 
-add-put-report : tie.Need-add-put-report Inv-loop μ-loop
-add-put-report c = search needs
+add-put-fresh : tie.Need-add-put-fresh Inv-loop μ-loop
+add-put-fresh c = search needs
 
-sub-put-report : tie.Need-sub-put-report Inv-loop μ-loop
-sub-put-report c = search needs
+sub-put-fresh : tie.Need-sub-put-fresh Inv-loop μ-loop
+sub-put-fresh c = search needs
 
-part-put-report-start : tie.Need-part-put-report-start Inv-loop μ-loop
-part-put-report-start c = search needs
+part-put-fresh-start : tie.Need-part-put-fresh-start Inv-loop μ-loop
+part-put-fresh-start c = search needs
 
-part-put-report-end : tie.Need-part-put-report-end Inv-loop μ-loop
-part-put-report-end c = search needs
+part-put-fresh-end : tie.Need-part-put-fresh-end Inv-loop μ-loop
+part-put-fresh-end c = search needs
 
-put-report-requires : tie.Need-put-report-requires Inv-loop μ-loop
-put-report-requires c κs = search needs
+put-fresh-requires : tie.Need-put-fresh-requires Inv-loop μ-loop
+put-fresh-requires c κs = search needs
 
 add-at : tie.Need-add-at Inv-loop μ-loop
 add-at c = search needs
@@ -69,11 +69,11 @@ put-many-spec =
     length-at-requires
     sub-least
     least-requires
-    add-put-report
-    sub-put-report
-    part-put-report-start
-    part-put-report-end
-    put-report-requires
+    add-put-fresh
+    sub-put-fresh
+    part-put-fresh-start
+    part-put-fresh-end
+    put-fresh-requires
     add-at
     loop-less
     loop-again

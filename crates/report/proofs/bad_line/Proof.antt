@@ -1,7 +1,7 @@
 -- `report::bad_line` meets its contract.
 -- Assumes nothing.
 use native.Mathlib.Omega.{arith}
-use Rattle.report.proofs.Appended.{then}
+use Rattle.text.proofs.Appended.{then}
 use Rattle.report.specs.Text.{badLine}
 use borrow.Author.Needs.{needs}
 use Rattle.report.proofs.bad_line.Statement.{statement}

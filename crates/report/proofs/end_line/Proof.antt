@@ -1,7 +1,7 @@
 -- `report::end_line` meets its contract.
 -- Assumes nothing.
 use native.Mathlib.Omega.{arith}
-use Rattle.report.proofs.Appended.{then}
+use Rattle.text.proofs.Appended.{then}
 use Rattle.report.specs.Text.{endLine}
 use borrow.Author.Needs.{needs}
 use Rattle.report.proofs.end_line.Statement.{statement}

@@ -1,6 +1,7 @@
 -- `reporter::put_entries` meets its contract.
 -- Assumes nothing.
 use Rattle.reporter.proofs.Reaching.{Stands, stands-first, stands-next, ends-here, stops-here, moved}
+use Rattle.trace.specs.Report.{beginning}
 use denote.Ref.{now}
 use lib.ListN.{length}
 use mathlib.Core.Path.{_≡_}
@@ -11,17 +12,11 @@ use Rattle.reporter.proofs.put_entries.Statement.{statement}
 use Rattle.reporter.proofs.put_entries.Tie as tie
 
 abbrev Inv-loop : tie.InvT-loop
-Inv-loop trace detail k₀ fifo₀ list₀ line₀ at₀ count₀ k fifo list line at count =
-    (length fifo ≡ 1664) × (length list ≡ 384) × (length line ≡ 8192) × (count ≤ at) × (at ≤ length trace) × Stands trace k fifo list at count
+Inv-loop trace detail start first k₀ fifo₀ list₀ line₀ at₀ count₀ k fifo list line at count =
+    (length fifo ≡ 1664) × (length list ≡ 384) × (length line ≡ 8192) × (count ≤ at) × (at ≤ length trace) × Stands (beginning start first) trace k fifo list at count
 
 abbrev μ-loop : tie.MeasureT-loop
-μ-loop trace detail k₀ fifo₀ list₀ line₀ at₀ count₀ k fifo list line at count = length trace - at
-
-fresh-requires : tie.Need-fresh-requires Inv-loop μ-loop
-fresh-requires c κs = search needs
-
-fifo-memory-requires : tie.Need-fifo-memory-requires Inv-loop μ-loop
-fifo-memory-requires c κs = search needs
+μ-loop trace detail start first k₀ fifo₀ list₀ line₀ at₀ count₀ k fifo list line at count = length trace - at
 
 store-list-requires : tie.Need-store-list-requires Inv-loop μ-loop
 store-list-requires c κs = search needs
@@ -30,7 +25,7 @@ line-buffer-requires : tie.Need-line-buffer-requires Inv-loop μ-loop
 line-buffer-requires c κs = search needs
 
 loop-holds : tie.Need-loop-holds Inv-loop μ-loop
-loop-holds c = (search needs, search needs, search needs, search needs, search needs, stands-first _ (c .before .before .before .fresh .ensures) (c .before .before .fifo-memory .ensures) (c .before .store-list .ensures))
+loop-holds c = (search needs, search needs, search needs, search needs, search needs, stands-first _ _ _ (c .before .store-list .ensures))
 
 slice-aggregate-step : tie.Need-slice-aggregate-step Inv-loop μ-loop
 slice-aggregate-step c = search needs
@@ -52,7 +47,8 @@ slice-aggregate-put c = search needs
 
 put-requires : tie.Need-put-requires Inv-loop μ-loop
 put-requires c κs =
-    let m = moved (now (c .before .before .before .before .before .before .before .before .before .before .before .before .before .before .before .before .before .args .trace)) (c .before .before .before .before .before .before .before .before .before .before .before .loop .at) (c .before .before .before .before .before .before .before .before .before .before .before .loop .line) (c .before .before .before .before .before .before .before .step .ensures .1) (c .before .before .c .given .1) in
+    let l = c .before .before .before .before .before .before .before .before .before .before .before .loop in
+    let m = moved (now (c .before .before .before .before .before .before .before .before .before .before .before .before .before .before .before .args .trace)) (l .at) (l .line) (c .before .before .before .before .before .before .before .step .ensures .1) (c .before .before .c .given .1) in
     omega (arith, m .0)
 
 slice-aggregate-put-details : tie.Need-slice-aggregate-put-details Inv-loop μ-loop
@@ -67,18 +63,20 @@ put-details-requires c κs = search needs
 add-count : tie.Need-add-count Inv-loop μ-loop
 add-count c =
     let i = c .before .before .before .before .before .before .before .before .before .before .before .before .before .before .before .before .before .loop .inv in
-    omega (arith, i .3, i .4, c .before .before .before .before .before .before .before .before .before .before .before .before .before .before .before .before .before .before .before .before .before .before .before .pre)
+    omega (arith, i .3, i .4, c .before .before .before .before .before .before .before .before .before .before .before .before .before .before .before .before .before .before .before .before .before .pre)
 
 loop-less : tie.Need-loop-less Inv-loop μ-loop
 loop-less c =
-    let m = moved (now (c .before .before .before .before .before .before .before .before .before .before .before .before .before .before .before .before .before .before .before .before .before .before .before .args .trace)) (c .before .before .before .before .before .before .before .before .before .before .before .before .before .before .before .before .before .loop .at) (c .before .before .before .before .before .before .before .before .before .before .before .before .before .before .before .before .before .loop .line) (c .before .before .before .before .before .before .before .before .before .before .before .before .before .step .ensures .1) (c .before .before .before .before .before .before .before .before .c .given .1) in
+    let l = c .before .before .before .before .before .before .before .before .before .before .before .before .before .before .before .before .before .loop in
+    let m = moved (now (c .before .before .before .before .before .before .before .before .before .before .before .before .before .before .before .before .before .before .before .before .before .args .trace)) (l .at) (l .line) (c .before .before .before .before .before .before .before .before .before .before .before .before .before .step .ensures .1) (c .before .before .before .before .before .before .before .before .c .given .1) in
     omega (arith, m .1, m .2)
 
 loop-again : tie.Need-loop-again Inv-loop μ-loop
 loop-again c =
     let l = c .before .before .before .before .before .before .before .before .before .before .before .before .before .before .before .before .before .loop in
-    let m = moved (now (c .before .before .before .before .before .before .before .before .before .before .before .before .before .before .before .before .before .before .before .before .before .before .before .args .trace)) (l .at) (l .line) (c .before .before .before .before .before .before .before .before .before .before .before .before .before .step .ensures .1) (c .before .before .before .before .before .before .before .before .c .given .1) in
-    (search needs, search needs, search needs, omega (arith, l .inv .3, m .1), m .2, stands-next _ _ _ _ _ _ (l .inv .5) (l .line) (c .before .before .before .before .before .before .before .before .before .before .before .before .before .step .ensures .0) (c .before .before .before .before .before .before .before .before .before .before .before .before .before .step .ensures .1) _ _ (c .before .before .before .before .before .before .before .before .c .given .1))
+    let s = c .before .before .before .before .before .before .before .before .before .before .before .before .before .step .ensures in
+    let m = moved (now (c .before .before .before .before .before .before .before .before .before .before .before .before .before .before .before .before .before .before .before .before .before .args .trace)) (l .at) (l .line) (s .1) (c .before .before .before .before .before .before .before .before .c .given .1) in
+    (search needs, search needs, search needs, omega (arith, l .inv .3, m .1), m .2, stands-next _ _ _ _ _ _ _ (l .inv .5) (l .line) (s .0) (s .1) _ _ (c .before .before .before .before .before .before .before .before .c .given .1))
 
 enum-told : tie.Need-enum-told Inv-loop μ-loop
 enum-told c = search needs
@@ -88,8 +86,9 @@ slice-aggregate-put-end c = search needs
 
 put-end-requires : tie.Need-put-end-requires Inv-loop μ-loop
 put-end-requires c κs =
-    let l = c .before .before .before .before .before .before .before .before .before .before .loop in
-    (search needs, ends-here _ _ _ _ _ _ (l .inv .5) (l .line) (c .before .before .before .before .before .before .step .ensures .0) (c .before .before .before .before .before .before .step .ensures .1) (c .before .before .before .before .before .before .before .before .before .before .before .before .before .before .before .before .pre) (c .before .enum-told .given .1))
+    let l = c .before .before .before .before .before .before .before .before .before .before .before .loop in
+    let s = c .before .before .before .before .before .before .before .step .ensures in
+    (search needs, ends-here _ _ _ _ _ _ _ (l .inv .5) (l .line) (s .0) (s .1) (c .before .before .before .before .before .before .before .before .before .before .before .before .before .before .before .pre) (c .before .before .enum-told .given .1))
 
 returns : tie.Need-returns Inv-loop μ-loop
 returns c = search needs
@@ -105,8 +104,9 @@ cast-put-bad c = search needs
 
 put-bad-requires : tie.Need-put-bad-requires Inv-loop μ-loop
 put-bad-requires c κs =
-    let l = c .before .before .before .before .before .before .before .before .before .before .loop in
-    (search needs, stops-here _ _ _ _ _ _ (l .inv .5) (l .line) (c .before .before .before .before .before .before .step .ensures .0) (c .before .before .before .before .before .before .step .ensures .1) (c .before .before .before .before .before .before .before .before .before .before .before .before .before .before .before .before .pre) (c .before .enum-told2 .given .1))
+    let l = c .before .before .before .before .before .before .before .before .before .before .before .loop in
+    let s = c .before .before .before .before .before .before .before .step .ensures in
+    (search needs, stops-here _ _ _ _ _ _ _ (l .inv .5) (l .line) (s .0) (s .1) (c .before .before .before .before .before .before .before .before .before .before .before .before .before .before .before .pre) (c .before .before .enum-told2 .given .1))
 
 returns-2 : tie.Need-returns-2 Inv-loop μ-loop
 returns-2 c = search needs
@@ -117,8 +117,6 @@ put-entries-spec =
     (tie.spec
     Inv-loop
     μ-loop
-    fresh-requires
-    fifo-memory-requires
     store-list-requires
     line-buffer-requires
     loop-holds

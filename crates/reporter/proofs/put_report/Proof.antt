@@ -18,7 +18,7 @@ slice-aggregate-put-bad : tie.Need-slice-aggregate-put-bad
 slice-aggregate-put-bad c = search needs
 
 put-bad-requires : tie.Need-put-bad-requires
-put-bad-requires c κs = (search needs, too-long _ _ (c .before .if1 .taken))
+put-bad-requires c κs = (search needs, too-long _ _ (c .before .before .if1 .taken))
 
 returns : tie.Need-returns
 returns c = search needs

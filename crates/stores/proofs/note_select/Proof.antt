@@ -1,4 +1,4 @@
-use Rattle.stores.specs.Stores.{selectListed}
+use Rattle.store_list.specs.Stores.{selectListed}
 use borrow.Author.Needs.{needs}
 use Rattle.stores.proofs.note_select.Statement.{statement}
 use Rattle.stores.proofs.note_select.Tie as tie

@@ -1,5 +1,5 @@
 -- `usb_device_read::fetch` meets its contract. Assumes nothing.
-use Rattle.usb_device_read.specs.Read.{waiting}
+use Rattle.read_tests.specs.Read.{waiting}
 use Rattle.usb_device_read.proofs.Laws.{packet-fits, copied-by}
 use borrow.Author.Needs.{needs}
 use Rattle.usb_device_read.proofs.fetch.Statement.{statement}

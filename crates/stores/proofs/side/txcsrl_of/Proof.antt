@@ -1,4 +1,4 @@
-use Rattle.regs.specs.Control.{txcsrlOf}
+use Rattle.csr.specs.Control.{txcsrlOf}
 use mathlib.Core.Path.{refl}
 use Rattle.stores.proofs.side.txcsrl_of.Statement.{statement}
 use Rattle.stores.proofs.side.txcsrl_of.Tie as tie

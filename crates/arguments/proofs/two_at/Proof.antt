@@ -1,0 +1,47 @@
+-- `arguments::two_at` meets its contract.
+-- Assumes nothing.
+use Rattle.arguments.proofs.Cases.{two-both, two-one, two-none}
+use borrow.Author.Needs.{needs}
+use Rattle.arguments.proofs.two_at.Statement.{statement}
+use Rattle.arguments.proofs.two_at.Tie as tie
+
+arg-at-requires : tie.Need-arg-at-requires
+arg-at-requires c κs = search needs
+
+enum-known-a : tie.Need-enum-known-a
+enum-known-a c = search needs
+
+arg-at-requires-2 : tie.Need-arg-at-requires-2
+arg-at-requires-2 c κs = search needs
+
+enum-known-b : tie.Need-enum-known-b
+enum-known-b c = search needs
+
+enum-told : tie.Need-enum-told
+enum-told c = search needs
+
+enum-told-2 : tie.Need-enum-told-2
+enum-told-2 c = search needs
+
+returns : tie.Need-returns
+returns c = search (two-both, needs)
+
+returns-2 : tie.Need-returns-2
+returns-2 c = search (two-one, needs)
+
+returns-3 : tie.Need-returns-3
+returns-3 c = search (two-none, needs)
+
+pub two-at-spec : {M : Type 1} → statement M
+two-at-spec =
+    tie.close
+    (tie.spec
+    arg-at-requires
+    enum-known-a
+    arg-at-requires-2
+    enum-known-b
+    enum-told
+    enum-told-2
+    returns
+    returns-2
+    returns-3)

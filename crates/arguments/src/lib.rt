@@ -1,0 +1,136 @@
+// The arguments of an entry of a trace: numbers in their ranges, what they mean, and a packet, which stays where it stands in the trace.
+use board::Direction;
+use endpoints::EndpointType;
+use endpoints::Wanted;
+use reader::Number;
+ghost use mathlib.Core.Path.{_≡_};
+ghost use Prim.Native.Nat.{_≤_};
+ghost use lib.ListN.{length};
+ghost use Rattle.arguments.specs.Arguments.{argAt, twoAt, directionOf, wantedOf, typeOf, busOf, flagOf};
+ghost use Rattle.arguments.specs.Entries.{heldIn, packetAt};
+
+pub enum BusEvent {
+    Reset,
+    Suspend,
+    Resume,
+}
+
+// An argument in its range, with the place after it.
+pub enum Arg {
+    Got(u16, usize),
+    No,
+}
+
+// Two arguments, each in its range, with the place after them.
+pub enum Two {
+    Both(u16, u16, usize),
+    Neither,
+}
+
+// A packet (endpoint, start, length) whose bytes lie inside the trace, with the place after them.
+pub enum Held {
+    Bytes(u8, usize, usize, usize),
+    Cut,
+}
+
+pub fn arg_at(s: &[u8], at: usize, most: u16) -> Arg
+    ensures { λ r. ⌜ r ≡ argAt (now (s .entry)) at most ⌝ }
+{
+    match reader::number_from(s, at) {
+        Number::Value(a, past) => {
+            if a <= most {
+                Arg::Got(a, past)
+            } else {
+                Arg::No
+            }
+        }
+        Number::Bad => Arg::No,
+    }
+}
+
+pub fn two_at(s: &[u8], at: usize, m: u16, n: u16) -> Two
+    ensures { λ r. ⌜ r ≡ twoAt (now (s .entry)) at m n ⌝ }
+{
+    match arg_at(s, at, m) {
+        Arg::Got(a, mid) => match arg_at(s, mid, n) {
+            Arg::Got(b, past) => Two::Both(a, b, past),
+            Arg::No => Two::Neither,
+        },
+        Arg::No => Two::Neither,
+    }
+}
+
+pub fn narrow(n: u16) -> u8
+    requires { ⌜ n ≤ 255 ⌝ }
+    ensures { λ r. ⌜ r ≡ n ⌝ }
+{
+    n as u8
+}
+
+pub fn direction_of(n: u16) -> Direction
+    ensures { λ r. ⌜ r ≡ directionOf n ⌝ }
+{
+    if n == 0 {
+        Direction::Out
+    } else {
+        Direction::In
+    }
+}
+
+pub fn flag_of(n: u16) -> bool
+    ensures { λ r. ⌜ r ≡ flagOf n ⌝ }
+{
+    n == 1
+}
+
+pub fn wanted_of(n: u16) -> Wanted
+    requires { ⌜ n ≤ 256 ⌝ }
+    ensures { λ r. ⌜ r ≡ wantedOf n ⌝ }
+{
+    if n == 0 {
+        return Wanted::Any;
+    }
+    Wanted::Number((n - 1) as u8)
+}
+
+pub fn type_of(n: u16) -> EndpointType
+    ensures { λ r. ⌜ r ≡ typeOf n ⌝ }
+{
+    match n {
+        0 => EndpointType::Control,
+        1 => EndpointType::Isochronous,
+        2 => EndpointType::Bulk,
+        _ => EndpointType::Interrupt,
+    }
+}
+
+pub fn bus_of(n: u16) -> BusEvent
+    ensures { λ r. ⌜ r ≡ busOf n ⌝ }
+{
+    match n {
+        0 => BusEvent::Reset,
+        1 => BusEvent::Suspend,
+        _ => BusEvent::Resume,
+    }
+}
+
+// A packet of n bytes from start on.
+fn held_in(s: &[u8], e: u8, n: usize, start: usize) -> Held
+    requires { ⌜ start ≤ length (now s) ⌝ }
+    ensures { λ r. ⌜ r ≡ heldIn (now (s .entry)) e n start ⌝ }
+{
+    if s.len() - start < n {
+        return Held::Cut;
+    }
+    Held::Bytes(e, start, n, start + n)
+}
+
+// Endpoint, length, bytes. Form comes before meaning: a packet that is cut is bad whatever its endpoint.
+pub fn packet_at(s: &[u8], at: usize) -> Held
+    ensures { λ r. ⌜ r ≡ packetAt (now (s .entry)) at ⌝ }
+{
+    match two_at(s, at, 255, 65535) {
+        Two::Both(e, n, start) => held_in(s, narrow(e), n as usize, start),
+        Two::Neither => Held::Cut,
+    }
+}

@@ -1,0 +1,5 @@
+pub mod AsWritten
+pub mod Modified
+pub mod Sides
+pub mod Soundness
+pub mod Tame

@@ -1,0 +1,3 @@
+pub mod Registers
+pub mod Control
+pub mod Sound

@@ -1,0 +1,66 @@
+// The walk of `poll` of the source over the receive flags, its `BitIter` as a loop over the lowest set bit.
+use regs::Regs;
+ghost use mathlib.Core.Path.{_≡_};
+ghost use mathlib.Core.Bool.{cond};
+ghost use Prim.Native.Nat.{_+_, _*_, _≤_, _<_};
+ghost use lib.ListN.{length};
+ghost use Rattle.laws.specs.Words.{clear, Lowest};
+ghost use Rattle.stores.specs.Stores.{log};
+ghost use Rattle.poll_walk.specs.Round.{walkOf, walked};
+
+// What the walk hands on.
+pub struct Walked {
+    pub regs: Regs,
+    pub n: usize,
+    pub out: u16,
+}
+
+// A word without one of its flags.
+pub fn without(w: u16, i: u8) -> u16
+    requires { ⌜ (w < 64) × (i < 6) ⌝ }
+    ensures { λ r. ⌜ (r ≡ clear w i) × (r < 64) ⌝ }
+{
+    w & !(1u16 << i)
+}
+
+// The lowest set bit.
+fn lowest(w: u16) -> u8
+    requires { ⌜ (0 < w) × (w < 64) ⌝ }
+    ensures { λ r. ⌜ Lowest w r ⌝ }
+{
+    u16::trailing_zeros(w) as u8
+}
+
+fn drain(flags: u16, out: u16, e: u8, ready: bool) -> u16
+    requires { ⌜ (flags < 64) × (e < 6) × (out < 64) ⌝ }
+    ensures { λ o. ⌜ (o ≡ cond ready out (clear flags e)) × (o < 64) ⌝ }
+{
+    if ready {
+        return out;
+    }
+    without(flags, e)
+}
+
+// The source's `for index in BitIter(rx_flags)`.
+pub fn walk(flags: u16, r: Regs, list: &mut [u16], n: usize) -> Walked
+    requires { ⌜ (flags < 64) × (n * 3 + 18 ≤ length (now list)) ⌝ }
+    ensures { λ o. ⌜ walkOf o (now (list .exit)) ≡ walked flags (log r (now (list .entry)) n) ⌝ }
+{
+    let mut rest = flags;
+    let mut s = r;
+    let mut m = n;
+    let mut out = flags;
+    while rest != 0 {
+        let e = lowest(rest);
+        rest = without(rest, e);
+        s = stores::select(s, e);
+        m = stores::note_select(list, m, e);
+        let i = e as usize;
+        out = drain(flags, out, e, regs::has_received(s.eps[i]));
+    }
+    Walked {
+        regs: s,
+        n: m,
+        out: out,
+    }
+}

@@ -1,0 +1,20 @@
+-- `read_zero::read_zero` meets its contract. Assumes nothing.
+use Rattle.read_zero.proofs.Laws.{zero-by}
+use borrow.Author.Needs.{needs}
+use Rattle.read_zero.proofs.read_zero.Statement.{statement}
+use Rattle.read_zero.proofs.read_zero.Tie as tie
+
+modify-csr0l-requires : tie.Need-modify-csr0l-requires
+modify-csr0l-requires c κs = search needs
+
+zero-by-requires : tie.Need-zero-by-requires
+zero-by-requires c κs = search needs
+
+same-length : tie.Need-same-length
+same-length c = search needs
+
+returns : tie.Need-returns
+returns c = search (zero-by, needs)
+
+pub read-zero-spec : {M : Type 1} → statement M
+read-zero-spec = tie.close (tie.spec modify-csr0l-requires zero-by-requires same-length returns)

@@ -1,0 +1,18 @@
+-- `usb_device_alloc::allocate` meets its contract. Assumes nothing.
+use Rattle.usb_device_alloc.specs.Calls.{allocEp}
+use borrow.Author.Needs.{needs}
+use Rattle.usb_device_alloc.proofs.allocate.Statement.{statement}
+use Rattle.usb_device_alloc.proofs.allocate.Tie as tie
+
+alloc-endpoint-requires : tie.Need-alloc-endpoint-requires
+alloc-endpoint-requires c κs = search needs
+
+handed-on-requires : tie.Need-handed-on-requires
+handed-on-requires c κs = search needs
+
+returns : tie.Need-returns
+unfolding allocEp
+returns c = cc
+
+pub allocate-spec : {M : Type 1} → statement M
+allocate-spec = tie.close (tie.spec alloc-endpoint-requires handed-on-requires returns)

@@ -1,0 +1,48 @@
+-- What the call `alloc_ep` of the source's usb_device_impl/mod.rs gives back, refused too. No list is lent.
+-- Assumes nothing.
+use Prim.Native.Nat.{ℕ}
+use mathlib.Core.Bool.{false}
+use mathlib.Core.List.{List, [], _∷_}
+use Rattle.board.specs.Boards.{rows}
+use Rattle.endpoints.specs.declared.Wanted.{Wanted}
+use Rattle.alloc_endpoint.specs.declared.Allocated.{Allocated}
+use Rattle.endpoints.specs.declared.Answer.{Answer}
+use Rattle.endpoints.specs.declared.Answer.the-variants as answer
+use Rattle.endpoints.specs.Endpoints.{Ask}
+use Rattle.alloc_endpoint.specs.Allocate.{allocate}
+use Rattle.endpoints.specs.Numbers.{errorNumber}
+use Rattle.record.specs.declared.Record.{Record}
+use Rattle.record.specs.declared.Entry.{Entry}
+use Rattle.record.specs.declared.Entry.the-variants.{Clear, Refused}
+use Rattle.record.specs.Record.{recordSound, entryBy, refusalNumber, withEndpoints}
+use Rattle.usb_device_alloc.specs.declared.Allocation.{Allocation}
+use Rattle.usb_device_alloc.specs.declared.Allocation.the-variants as allocation
+use Rattle.usb_device_alloc.specs.declared.AllocEp.{AllocEp}
+
+-- `alloc_ep`: what alloc_endpoint answers and the endpoints that it gives back. No list is lent.
+abbrev pub allocated : Answer → Allocation
+allocated (answer.Done n) = allocation.Done n
+allocated (answer.Refused x) = allocation.NotGiven x
+
+abbrev pub handed : Record → Allocated → AllocEp
+handed k o = record { answer = allocated (o .answer); «record» = withEndpoints k (o .endpoints) }
+
+unfoldable pub allocEp : Record → Ask → Wanted → AllocEp
+allocEp k q w = handed k (allocate (rows (k .regs .board)) (k .endpoints) q w)
+
+abbrev pub unlessAllocated : Entry → Record → AllocEp → AllocEp
+unlessAllocated (Refused x) k a = record { answer = allocation.Refused x; «record» = k }
+unlessAllocated Clear k a = a
+
+unfoldable pub allocEpCall : Record → Ask → Wanted → AllocEp
+allocEpCall k q w = unlessAllocated (entryBy false (recordSound k) false) k (allocEp k q w)
+
+abbrev pub allocationNumber : Allocation → ℕ
+allocationNumber (allocation.Done n) = 0
+allocationNumber (allocation.NotGiven x) = errorNumber x
+allocationNumber (allocation.Refused x) = refusalNumber x
+
+abbrev pub allocationValues : Allocation → List ℕ
+allocationValues (allocation.Done n) = n ∷ []
+allocationValues (allocation.NotGiven x) = []
+allocationValues (allocation.Refused x) = []

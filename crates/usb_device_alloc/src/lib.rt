@@ -1,0 +1,93 @@
+// The call `alloc_ep` of the source's usb_device_impl/mod.rs: an endpoint by the source's alloc_endpoint.rs. No list is lent.
+use board::Direction;
+use endpoints::Answer;
+use endpoints::EndpointAllocError;
+use endpoints::EndpointType;
+use endpoints::Wanted;
+use record::Entry;
+use record::Record;
+use record::Refusal;
+ghost use mathlib.Core.Path.{_≡_};
+ghost use Rattle.endpoints.specs.Endpoints.{ask};
+ghost use mathlib.Core.Bool.{false};
+ghost use Rattle.usb_device_alloc.specs.Calls.{allocated, allocEp, allocEpCall, allocationNumber};
+
+// The answer of `alloc_ep`: the endpoint, or the source's own error, before the trait's takes its place.
+pub enum Allocation {
+    Done(u8),
+    NotGiven(EndpointAllocError),
+    Refused(Refusal),
+}
+
+pub struct AllocEp {
+    pub answer: Allocation,
+    pub record: Record,
+}
+
+// The answer of alloc_endpoint, as `alloc_ep` hands it on.
+fn handed_on(a: Answer) -> Allocation
+    ensures { λ r. ⌜ r ≡ allocated a ⌝ }
+{
+    match a {
+        Answer::Done(n) => Allocation::Done(n),
+        Answer::Refused(e) => Allocation::NotGiven(e),
+    }
+}
+
+fn allocate(
+    k: Record,
+    ep_dir: Direction,
+    ep_addr: Wanted,
+    ep_type: EndpointType,
+    max_packet_size: u16,
+) -> AllocEp
+    ensures { λ a. ⌜ a ≡ allocEp k (ask «ep_type» «ep_dir» «max_packet_size») «ep_addr» ⌝ }
+{
+    let r = k.regs;
+    let e = k.endpoints;
+    let c = k.control_state;
+    let f = k.irq;
+    let b = r.board;
+    let o = alloc_endpoint::alloc_endpoint(b, e, ep_type, ep_addr, ep_dir, max_packet_size);
+    let a = o.answer;
+    let next = o.endpoints;
+    AllocEp {
+        answer: handed_on(a),
+        record: Record {
+            regs: r,
+            endpoints: next,
+            control_state: c,
+            irq: f,
+        },
+    }
+}
+
+// The source's polling interval goes nowhere and is left out.
+pub fn alloc_ep(
+    k: Record,
+    ep_dir: Direction,
+    ep_addr: Wanted,
+    ep_type: EndpointType,
+    max_packet_size: u16,
+) -> AllocEp
+    ensures { λ a. ⌜ a ≡ allocEpCall k (ask «ep_type» «ep_dir» «max_packet_size») «ep_addr» ⌝ }
+{
+    let t = record::admit(false, k, false);
+    match t {
+        Entry::Refused(x) => AllocEp {
+            answer: Allocation::Refused(x),
+            record: k,
+        },
+        Entry::Clear => allocate(k, ep_dir, ep_addr, ep_type, max_packet_size),
+    }
+}
+
+pub fn allocation_number(a: Allocation) -> u8
+    ensures { λ n. ⌜ n ≡ allocationNumber a ⌝ }
+{
+    match a {
+        Allocation::Done(_) => 0,
+        Allocation::NotGiven(e) => endpoints::error_number(e),
+        Allocation::Refused(x) => record::refusal_number(x),
+    }
+}

@@ -1,0 +1,20 @@
+-- `usb_device_reset::enable_rx` meets its contract. Assumes nothing.
+use Rattle.usb_device_reset.proofs.Laws.{rx-used, rx-unused}
+use borrow.Author.Needs.{needs}
+use Rattle.usb_device_reset.proofs.enable_rx.Statement.{statement}
+use Rattle.usb_device_reset.proofs.enable_rx.Tie as tie
+
+ep-rx-enable-requires : tie.Need-ep-rx-enable-requires
+ep-rx-enable-requires c κs = search needs
+
+same-length : tie.Need-same-length
+same-length c = search needs
+
+returns : tie.Need-returns
+returns c = (search (rx-used, needs), search needs)
+
+returns-2 : tie.Need-returns-2
+returns-2 c = (search (rx-unused, needs), search needs)
+
+pub enable-rx-spec : {M : Type 1} → statement M
+enable-rx-spec = tie.close (tie.spec ep-rx-enable-requires same-length returns returns-2)

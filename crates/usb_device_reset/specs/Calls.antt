@@ -1,0 +1,36 @@
+-- What the call `reset` of the source's usb_device_impl/mod.rs gives back and leaves in the lent list, refused too.
+-- Assumes nothing.
+use Prim.Native.Nat.{ℕ, zero, suc}
+use mathlib.Core.Bool.{false, cond}
+use mathlib.Core.List.{List}
+use lib.ListN.{getD}
+use Rattle.endpoints.specs.declared.EndpointData.{EndpointData}
+use Rattle.endpoints.specs.Endpoints.{blank}
+use Rattle.stores.specs.Stores.{Log, writePower}
+use Rattle.enabling.specs.Common.{epTxEnable, epRxEnable}
+use Rattle.record.specs.declared.Record.{Record}
+use Rattle.record.specs.Record.{recordSound, entryBy, endpointsOf}
+use Rattle.usb_device_impl.specs.Calls.{Outcome, stored, unless, short, begun, idled}
+
+-- the body of `reset`'s `for_each`: `if ep.used_tx { .. }`, then `if ep.used_rx { .. }`
+unfoldable pub txEnabled : ℕ → EndpointData → Log → Log
+txEnabled e ep g = cond (ep .«used_tx») (epTxEnable e (ep .«ep_conf») g) g
+
+unfoldable pub rxEnabled : ℕ → EndpointData → Log → Log
+rxEnabled e ep g = cond (ep .«used_rx») (epRxEnable e (ep .«ep_conf») g) g
+
+unfoldable pub usedEnabled : ℕ → EndpointData → Log → Log
+usedEnabled e ep g = rxEnabled e ep (txEnabled e ep g)
+
+-- every endpoint below n, lowest first
+unfoldable pub enabledBelow : List EndpointData → ℕ → Log → Log
+enabledBelow es zero g = g
+enabledBelow es (suc n) g = usedEnabled n (getD es n blank) (enabledBelow es n g)
+
+-- `power().write(|w| w.set_suspend_mode(true))`, then the endpoints
+unfoldable pub resetStores : Record → Log → Log
+resetStores k g = enabledBelow (k .endpoints) (endpointsOf k) (writePower g)
+
+-- `reset`
+unfoldable pub resetCall : Record → List ℕ → Outcome
+resetCall k l = unless (entryBy (short l) (recordSound k) false) k l (stored k (idled (k .«control_state»)) (resetStores k (begun k l)))

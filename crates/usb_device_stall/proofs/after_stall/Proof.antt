@@ -1,0 +1,19 @@
+-- `usb_device_stall::after_stall` meets its contract. Assumes nothing.
+use Rattle.usb_device_stall.specs.Calls.{afterStall}
+use borrow.Author.Needs.{needs}
+use Rattle.usb_device_stall.proofs.after_stall.Statement.{statement}
+use Rattle.usb_device_stall.proofs.after_stall.Tie as tie
+
+idle-requires : tie.Need-idle-requires
+idle-requires c κs = search needs
+
+returns : tie.Need-returns
+unfolding afterStall
+returns c = rw (c .before .if1 .taken) (c .idle .ensures)
+
+returns-2 : tie.Need-returns-2
+unfolding afterStall
+returns-2 c = rw (c .if1 .left)
+
+pub after-stall-spec : {M : Type 1} → statement M
+after-stall-spec = tie.close (tie.spec idle-requires returns returns-2)

@@ -1,0 +1,19 @@
+-- `write_zero::tx_size` meets its contract. Assumes nothing.
+use mathlib.Core.Path.{refl}
+use Rattle.write_zero.specs.Write.{txSize}
+use borrow.Author.Needs.{needs}
+use Rattle.write_zero.proofs.tx_size.Statement.{statement}
+use Rattle.write_zero.proofs.tx_size.Tie as tie
+
+array-copy-out-e : tie.Need-array-copy-out-e
+array-copy-out-e c = search needs
+
+cast-result : tie.Need-cast-result
+cast-result c = search needs
+
+returns : tie.Need-returns
+unfolding txSize
+returns c = refl
+
+pub tx-size-spec : {M : Type 1} → statement M
+tx-size-spec = tie.close (tie.spec array-copy-out-e cast-result returns)
