@@ -10,15 +10,11 @@ use lib.Dec.{leb}
 use lib.ListN.{length, take, drop, replicate, length-take, length-drop, length-replicate}
 use Rattle.board.specs.declared.Direction.the-variants.{Out}
 use Rattle.record.specs.declared.Record.{Record}
-use Rattle.record.specs.declared.Entry.{Entry as Admission}
-use Rattle.record.specs.declared.Entry.the-variants as admission
-use Rattle.record.specs.Record.{endpointsOf, recordSound, entryBy}
+use Rattle.record.specs.Record.{recordSound}
 use Rattle.record.proofs.Areas.{area-within}
 use Rattle.record.proofs.Passing.{record-is-sound, waiting-fits}
-use Rattle.record.proofs.Rows.{none-refused}
-use Rattle.peek.specs.Peek.{short}
+use Rattle.peek.specs.Peek.{short, rxCount}
 use Rattle.peek.proofs.Lent.{lent-enough}
-use Rattle.peek.proofs.Readings as readings
 use Rattle.usb_device_alloc.specs.declared.AllocEp.{AllocEp}
 use Rattle.usb_device_impl.specs.declared.Called.{Called}
 use Rattle.usb_device_stall.specs.declared.IsStalled.{IsStalled}
@@ -34,9 +30,10 @@ use Rattle.usb_device_write.proofs.Answers as write-answers
 use Rattle.read_zero.specs.declared.Got.{Got}
 use Rattle.read_zero.specs.declared.Got.the-variants as got
 use Rattle.read_zero.specs.declared.Fetched.{Fetched}
-use Rattle.usb_device_read.specs.Read.{ReadOutcome, readBy, readCall}
+use Rattle.usb_device_read.specs.Read.{ReadOutcome, readCall}
+use Rattle.usb_device_read.specs.Replies.{Given, done as granted}
 use Rattle.read_zero.specs.Read.{gotNumber, gotValues}
-use Rattle.read_tests.specs.Read.{ownTestsAt, testsBy, tests, waiting}
+use Rattle.read_tests.specs.Read.{waiting}
 use Rattle.usb_device_read.proofs.Answers as read-answers
 use Rattle.usb_device_poll.specs.declared.Polled.{Polled}
 use Rattle.usb_device_poll.specs.Poll.{PollOutcome, pollNumber, pollValues}
@@ -150,30 +147,25 @@ wrote-fits k ep s start n f l {x} e h = go (x .answer) (λ i. e i .result .answe
     go (wrote.Refused z) q = tt
 
 -- a read's count is the waiting packet's length, and a record that passes reply 16 holds no packet longer than its area
-module _ (k : Record) (ep : ℕ) (f l buf : List ℕ) where
+module _ (k : Record) (ep : ℕ) (buf f l : List ℕ) where
   waiting-in : short k (length f) (length l) ≡ false → recordSound k ≡ true → waiting k ep ≤ length f
-  unfolding waiting
+  unfolding waiting rxCount
   waiting-in s p =
       let fits = waiting-fits k (record-is-sound k p) ep Out in
       let in-area = area-within k ep Out in
       let lent = lent-enough k (length f) (length l) s in
-      rw (readings.waiting (k .regs) ep) (omega (arith, fits, in-area, lent .0))
+      omega (arith, fits, in-area, lent .0)
 
-  count-in : (n : ℕ) → readCall k ep f l buf .result .answer ≡ got.Done n → n ≤ length f
-  unfolding readCall tests
-  count-in n e = go (entryBy (short k (length f) (length l)) (recordSound k) (leb (endpointsOf k) ep)) refl e
+  count-in : (n : ℕ) → readCall k ep buf f l .result .answer ≡ got.Done n → n ≤ length f
+  count-in n e = go (read-answers.exactly k ep buf f l 0 .0 (ap gotNumber e))
     where
-      go : (t : Admission) → entryBy (short k (length f) (length l)) (recordSound k) (leb (endpointsOf k) ep) ≡ t
-          → readBy (testsBy t (ownTestsAt k ep (length buf))) k ep f l buf .result .answer ≡ got.Done n → n ≤ length f
-      go admission.Clear t q =
-          let h = none-refused (short k (length f) (length l)) (recordSound k) (leb (endpointsOf k) ep) t in
-          omega (arith, read-answers.value k ep f l buf n e, waiting-in (h .0) (h .1))
-      go (admission.Refused x) t q = let z : _≡_ {A = ℕ} 0 1 = cc in absurd (omega arith)
+      go : Given k ep (length buf) (length f) (length l) 0 → n ≤ length f
+      go (granted a s t u) = omega (arith, read-answers.value k ep buf f l n e, waiting-in (a .lent) (a .passes))
 
-  pub got-fits : {x : Fetched} {l′ buf′ : List ℕ} → record { result = x; list = l′; buf = buf′ } ≡ readCall k ep f l buf → length f ≤ 2000 → gotFits (x .answer)
+  pub got-fits : {x : Fetched} {l′ buf′ : List ℕ} → record { result = x; list = l′; buf = buf′ } ≡ readCall k ep buf f l → length f ≤ 2000 → gotFits (x .answer)
   got-fits {x} e h = go (x .answer) (λ i. e i .result .answer)
     where
-      go : (y : Got) → y ≡ readCall k ep f l buf .result .answer → gotFits y
+      go : (y : Got) → y ≡ readCall k ep buf f l .result .answer → gotFits y
       go (got.Done n) q = omega (arith, h, count-in n (sym q))
       go (got.Refused z) q = tt
 
@@ -193,6 +185,6 @@ module _ (n : ℕ) (h : n ≤ 512) {z : List ℕ} (is : z ≡ replicate 512 0) w
   pub buffer-short : length (take n z) ≤ 512
   buffer-short = omega (arith, h, buffer-length)
 
-  pub by-read : (k : Record) (ep : ℕ) (f l : List ℕ) {b a l′ : List ℕ} {r : Acted} {code : ℕ} → Acts b a r f l′ code (fetched f (readCall k ep f l (take n z)))
-      → Acts b a r f l′ code (fetched f (readCall k ep f l (replicate n 0)))
-  by-read k ep f l {b} {a} {l′} {r} {code} p = subst (λ (u : List ℕ). Acts b a r f l′ code (fetched f (readCall k ep f l u))) zeros p
+  pub by-read : (k : Record) (ep : ℕ) (f l : List ℕ) {b a l′ : List ℕ} {r : Acted} {code : ℕ} → Acts b a r f l′ code (fetched f (readCall k ep (take n z) f l))
+      → Acts b a r f l′ code (fetched f (readCall k ep (replicate n 0) f l))
+  by-read k ep f l {b} {a} {l′} {r} {code} p = subst (λ (u : List ℕ). Acts b a r f l′ code (fetched f (readCall k ep u f l))) zeros p

@@ -28,9 +28,9 @@ fn fetch(
     code: u8,
 ) -> Acted
     requires { ⌜ (length (now buf) ≤ 512) × (length (now fifo) ≤ 2000) × (8192 ≤ length (now line)) ⌝ }
-    ensures { λ r. ⌜ Acts (now (line .entry)) (now (line .exit)) r (now (fifo .entry)) (now (list .exit)) code (fetched (now (fifo .entry)) (readCall k ep (now (fifo .entry)) (now (list .entry)) (now (buf .entry)))) ⌝ }
+    ensures { λ r. ⌜ Acts (now (line .entry)) (now (line .exit)) r (now (fifo .entry)) (now (list .exit)) code (fetched (now (fifo .entry)) (readCall k ep (now (buf .entry)) (now (fifo .entry)) (now (list .entry)))) ⌝ }
 {
-    let o = usb_device_read::read(k, ep, fifo, list, buf);
+    let o = usb_device_read::read(k, ep, buf, fifo, list);
     answers::got(line, code, o, buf)
 }
 
@@ -45,7 +45,7 @@ fn read(
     code: u8,
 ) -> Acted
     requires { ⌜ (n ≤ 512) × (length (now fifo) ≤ 2000) × (8192 ≤ length (now line)) ⌝ }
-    ensures { λ r. ⌜ Acts (now (line .entry)) (now (line .exit)) r (now (fifo .entry)) (now (list .exit)) code (fetched (now (fifo .entry)) (readCall k ep (now (fifo .entry)) (now (list .entry)) (replicate n 0))) ⌝ }
+    ensures { λ r. ⌜ Acts (now (line .entry)) (now (line .exit)) r (now (fifo .entry)) (now (list .exit)) code (fetched (now (fifo .entry)) (readCall k ep (replicate n 0) (now (fifo .entry)) (now (list .entry)))) ⌝ }
 {
     let mut buf = zeros();
     let m = n as usize;
@@ -86,7 +86,7 @@ pub fn act(
         Entry::Address(a) => answers::called(
             line,
             code,
-            usb_device_impl::set_device_address(k, list, a),
+            usb_device_impl::set_device_address(k, a, list),
         ),
         Entry::Write(ep, start, n) => {
             let end = start + n;
@@ -100,12 +100,12 @@ pub fn act(
         Entry::Stall(ep, d, on) => answers::called(
             line,
             code,
-            usb_device_stall::set_stalled(k, list, ep, d, on),
+            usb_device_stall::set_stalled(k, ep, d, on, list),
         ),
         Entry::IsStalled(ep, d) => answers::told(
             line,
             code,
-            usb_device_stall::is_stalled(k, list, ep, d),
+            usb_device_stall::is_stalled(k, ep, d, list),
         ),
         Entry::Poll => answers::polled(line, code, usb_device_poll::poll(k, list)),
         Entry::Interrupt => answers::interrupted(line, code, usb_device_interrupt::on_interrupt(k)),

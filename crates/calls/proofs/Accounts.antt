@@ -1,6 +1,6 @@
 -- What an account of a call is, and how one is put together from the call's steps. Assumes nothing.
 use Prim.Native.Nat.{ℕ, _^_, _<_}
-use mathlib.Core.Path.{_≡_}
+use mathlib.Core.Path.{_≡_, ap}
 use mathlib.Core.Bool.{Bool, true, false, cond}
 use mathlib.Core.List.{List, []}
 use mathlib.Core.Logic.{_⊎_, inl, inr}
@@ -12,6 +12,7 @@ use Rattle.board.specs.Boards.{rows}
 use Rattle.csr.specs.declared.Csr0lSet.{Csr0lSet}
 use Rattle.csr.specs.declared.TxcsrlSet.{TxcsrlSet}
 use Rattle.csr.specs.declared.RxcsrlSet.{RxcsrlSet}
+use Rattle.regs.specs.declared.Regs.{Regs}
 use Rattle.stores.specs.Stores.{Log, log, modifyCsr0l, modifyTxcsrl, modifyRxcsrl}
 use Rattle.regs.specs.Control.{csr0lRead, txcsrlRead, rxcsrlRead}
 use Rattle.csr.specs.Control.{csr0lSet, txcsrlSet, rxcsrlSet}
@@ -20,8 +21,8 @@ use Rattle.stores.proofs.Promises.{modify-csr0l, modify-txcsrl, modify-rxcsrl}
 use Rattle.stores.proofs.Halts.{tx-modified, rx-modified}
 use Rattle.record.specs.declared.Flags.{Flags}
 use Rattle.record.specs.declared.Record.{Record}
-use Rattle.record.specs.declared.Entry.the-variants.{Clear}
-use Rattle.record.specs.Record.{recordSound, endpointsOf, entryBy}
+use Rattle.record.specs.declared.Admission.the-variants.{Clear}
+use Rattle.record.specs.Record.{recordSound, endpointsIn, endpointsOf, admissionBy}
 use Rattle.record.proofs.Rows.{none-refused}
 use Rattle.calls.proofs.Steps.{Step, one, Reached, none, then, Sane, Gentle, gentle-sane}
 
@@ -34,22 +35,25 @@ Low b f = (f .«ep_tx» < 2 ^ length (rows b)) × (f .«ep_rx» < 2 ^ length (ro
 pub record Account (May : Step → Log → Type 0) (k q : Record) : Type 0 where
   pub list : List ℕ
   pub last : Log
-  pub path : Reached May (log (k .regs) list 0) last
-  pub is : q .regs ≡ last .regs
-  pub served : (q .regs ≡ k .regs) ⊎ (recordSound k ≡ true)
+  pub path : Reached May (log (k .regs .words) list 0) last
+  pub is : q .regs .words ≡ last .regs
+  pub board : q .regs .board ≡ k .regs .board
+  pub served : (q .regs .words ≡ k .regs .words) ⊎ (recordSound k ≡ true)
   pub flags : Low (k .regs .board) (k .irq) → Low (k .regs .board) (q .irq)
 
 -- nothing is stored
 pub left : {May : Step → Log → Type 0} {k q : Record} → q .regs ≡ k .regs → q .irq ≡ k .irq → Account May k q
-left {k = k} p f = record { list = []; last = log (k .regs) [] 0; path = none; is = p; served = inl p; flags = λ h. rw f h }
+left {k = k} p f =
+    let w = ap (λ (r : Regs). r .words) p in
+    record { list = []; last = log (k .regs .words) [] 0; path = none; is = w; board = ap (λ (r : Regs). r .board) p; served = inl w; flags = λ h. rw f h }
 
 -- the stores of g, and the flags as they were
-pub stores : {May : Step → Log → Type 0} {k q : Record} (l : List ℕ) (g : Log) → recordSound k ≡ true → Reached May (log (k .regs) l 0) g
-    → q .regs ≡ g .regs → q .irq ≡ k .irq → Account May k q
-stores l g s r p f = record { list = l; last = g; path = r; is = p; served = inr s; flags = λ h. rw f h }
+pub stores : {May : Step → Log → Type 0} {k q : Record} (l : List ℕ) (g : Log) → recordSound k ≡ true → Reached May (log (k .regs .words) l 0) g
+    → q .regs .words ≡ g .regs → q .regs .board ≡ k .regs .board → q .irq ≡ k .irq → Account May k q
+stores l g s r p c f = record { list = l; last = g; path = r; is = p; board = c; served = inr s; flags = λ h. rw f h }
 
 pub sane : {b : Board} {k q : Record} → Account (Gentle b) k q → Account (Sane b) k q
-sane a = record { list = a .list; last = a .last; path = gentle-sane (a .path); is = a .is; served = a .served; flags = a .flags }
+sane a = record { list = a .list; last = a .last; path = gentle-sane (a .path); is = a .is; board = a .board; served = a .served; flags = a .flags }
 
 -- whichever a test decides for
 pub by-test : {A : Type 0} (P : A → Type 0) (t : Bool) {x y : A} → P x → P y → P (cond t x y)
@@ -78,12 +82,12 @@ module _ {b : Board} {g h : Log} (r : Reached (Gentle b) g h) where
 
 -- reply 8 is not given: the endpoint is one of the board's
 pub there : (k : Record) (e : ℕ) → leb (endpointsOf k) e ≡ false → e < length (rows (k .regs .board))
-unfolding endpointsOf
+unfolding endpointsOf endpointsIn
 there k e p = leb-false (length (rows (k .regs .board))) e p
 
 -- where the first tests refuse nothing, the record passes and the endpoint is there
-pub passes : (s p x : Bool) → entryBy s p x ≡ Clear → p ≡ true
+pub passes : (s p x : Bool) → admissionBy s p x ≡ Clear → p ≡ true
 passes s p x c = none-refused s p x c .1
 
-pub below : (k : Record) (e : ℕ) (s p : Bool) → entryBy s p (leb (endpointsOf k) e) ≡ Clear → e < length (rows (k .regs .board))
+pub below : (k : Record) (e : ℕ) (s p : Bool) → admissionBy s p (leb (endpointsOf k) e) ≡ Clear → e < length (rows (k .regs .board))
 below k e s p c = there k e (none-refused s p _ c .2)

@@ -1,21 +1,20 @@
 -- How every operation ends: done, refused by one of its numbers with everything as it was, or blocked. Assumes nothing.
 use Prim.Native.Nat.{ℕ, zero, suc, _≤_}
-use mathlib.Core.Path.{_≡_, refl, sym, ap, _∙_}
+use mathlib.Core.Path.{_≡_, refl, sym, ap, subst, _∙_}
 use mathlib.Core.Bool.{Bool, true, false, _||_}
 use mathlib.Core.Logic.{inl, inr}
 use mathlib.Core.List.{List, [], _∷_}
 use native.Mathlib.Omega.{arith}
 use borrow.Author.Tests.{eq-eqb, ne-eqb, ltb-false, leb-true}
-use lib.Dec.{eqb, ltb}
+use lib.Dec.{eqb, ltb, leb}
 use lib.ListN.{length, drop}
 use Rattle.board.specs.declared.Board.{Board}
 use Rattle.board.specs.Boards.{rows, at-least-one}
 use Rattle.stores.specs.Stores.{Log, log, writeIndex}
 use Rattle.store_list.specs.Stores.{listed, INDEX}
 use Rattle.stores.specs.Promise.{index}
-use Rattle.stores.proofs.Promises.{index-selects, rest}
+use Rattle.stores.proofs.Promises.{index-selects, index-lists}
 use Rattle.store_list.proofs.Promises.{listed-first}
-use Rattle.stores.proofs.Others.{others}
 use Rattle.endpoints.specs.declared.EndpointAllocError.{EndpointAllocError}
 use Rattle.endpoints.specs.declared.EndpointAllocError.the-variants.{EndpointOverflow, InvalidEndpoint, EpDirNotSupported, EpUsed, MaxPacketSizeBiggerThanEpFifoSize}
 use Rattle.alloc_endpoint.specs.declared.Allocated.{Allocated}
@@ -30,11 +29,14 @@ use Rattle.endpoints.specs.Numbers.{errorNumber, answerNumber}
 use Rattle.alloc_endpoint.specs.Replies as allocation
 use Rattle.alloc_endpoint.proofs.Answers as alloc
 use Rattle.alloc_endpoint.proofs.Changes.{refused-keeps}
+use Rattle.peek.specs.declared.Verdict.{Verdict}
+use Rattle.peek.specs.Peek.{short, testsBy, blocked as blockedAfter}
 use Rattle.peek.proofs.Lent.{lent-enough}
 use Rattle.record.specs.declared.Record.{Record}
+use Rattle.record.specs.declared.Admission.{Admission}
 use Rattle.record.specs.declared.Refusal.{Refusal}
 use Rattle.record.proofs.Rows.{Row, Given}
-use Rattle.record.specs.Record.{recordSound, refusalNumber, entryBy, withRegs, withEndpoints}
+use Rattle.record.specs.Record.{recordSound, refusalNumber, admissionBy, endpointsOf, withRegs, withEndpoints}
 use Rattle.usb_device_impl.specs.declared.Reply.{Reply}
 use Rattle.usb_device_impl.specs.declared.Reply.the-variants as reply
 use Rattle.usb_device_stall.specs.declared.Told.{Told}
@@ -46,17 +48,19 @@ use Rattle.usb_device_impl.proofs.Replies as simple
 use Rattle.usb_device_reset.proofs.Replies as simple-reset
 use Rattle.usb_device_stall.proofs.Replies as simple-stall
 use Rattle.write_tests.specs.Write as write-call
-use Rattle.write_zero.specs.Write as write-call-zero
-use Rattle.usb_device_write.specs.Write as write-call-write
+use Rattle.write_zero.specs.Write.{wroteNumber, txSize}
+use Rattle.usb_device_write.specs.Write.{WriteOutcome, outcome as write-outcome, writeBy, writeCall}
+use Rattle.usb_device_write.proofs.Verdicts.{tests-are}
 use Rattle.usb_device_write.specs.Replies as write-rows
 use Rattle.usb_device_write.proofs.Answers as writes
 use Rattle.read_tests.specs.Read as read-call
-use Rattle.read_zero.specs.Read as read-call-zero
-use Rattle.usb_device_read.specs.Read as read-call-read
+use Rattle.read_zero.specs.Read.{gotNumber}
+use Rattle.usb_device_read.specs.Read.{ReadOutcome, readCall}
+use Rattle.usb_device_read.proofs.Verdicts.{told as read-told}
 use Rattle.usb_device_read.specs.Replies as read-rows
 use Rattle.usb_device_read.proofs.Answers as reads
 use Rattle.usb_device_interrupt.specs.Interrupt.{interruptBy, interruptCall}
-use Rattle.usb_device_poll.specs.Poll.{PollOutcome, pollNumber, pollWhen, pollCall}
+use Rattle.usb_device_poll.specs.Poll.{PollOutcome, outcomeOf, pollNumber, pollWhen, pollAdmitted, pollCall}
 use Rattle.usb_device_poll.proofs.Answers as polls
 use Rattle.host.specs.declared.Host.{Host}
 use Rattle.host.specs.declared.Happened.{Happened}
@@ -65,7 +69,7 @@ use Rattle.host.specs.declared.Taken.{Taken}
 use Rattle.host.specs.declared.Taken.the-variants as takes
 use Rattle.host.specs.Host as host
 use Rattle.host.proofs.Replies as events
-use Rattle.calls.specs.Calls.{Op, allocEp, busInit, enable, reset, setDeviceAddress, write, read, setStalled, isStalled, poll, onInterrupt, forceReset, arrival, collection, busReset, suspend, resume, setupEnd, underrun, overrun, Outcome, called, told, allocated, polled, interrupted, happened, arrived, collected, outcome}
+use Rattle.calls.specs.Calls.{Op, allocEp, busInit, enable, reset, setDeviceAddress, write, read, setStalled, isStalled, poll, onInterrupt, forceReset, arrival, collection, busReset, suspend, resume, setupEnd, underrun, overrun, Outcome, called, told, allocated, written, fetched, polled, interrupted, happened, arrived, collected, outcome}
 use Rattle.calls.specs.Demand.{replies, allocReplies, among, noneLent, listLent, lent, unchanged, selected, Blocking, writing, reading}
 use Rattle.laws.proofs.Tests.{clash}
 
@@ -127,16 +131,14 @@ module _ (k : Record) (o : Op) (rs : List Row) (is : numbers rs ≡ replies o) (
 -- the store that reply 6 has listed, and the endpoint that it has selected
 module _ (k : Record) (e : ℕ) (l : List ℕ) where
   abbrev chose : Log
-  chose = writeIndex e (log (k .regs) l 0)
+  chose = writeIndex e (log (k .regs .words) l 0)
 
   chose-count : chose .count ≡ 1
-  chose-count = others (index e) (log (k .regs) l 0) .count refl
+  chose-count = index-lists e (log (k .regs .words) l 0) .1
 
   chose-list : 384 ≤ length l → chose .list ≡ 3 ∷ e ∷ e ∷ drop 3 l
   chose-list h =
-      others (index e) (log (k .regs) l 0) .list refl
-      ∙ ap (λ (i : ℕ). listed l 0 INDEX i e) (rest (index e) (log (k .regs) l 0) .selected)
-      ∙ listed-first l INDEX e e (omega arith)
+      index-lists e (log (k .regs .words) l 0) .0 ∙ listed-first l INDEX e e (omega arith)
 
   -- the same in write and read, which differ in what else they are lent
   blocks : (f b : List ℕ) → 384 ≤ length l
@@ -144,7 +146,7 @@ module _ (k : Record) (e : ℕ) (l : List ℕ) where
       ≡ selected e k (record { fifo = f; list = l; buf = b })
   blocks f b h = λ i. record {
     reply = 6;
-    «record» = withRegs k (index-selects e (log (k .regs) l 0) i);
+    «record» = withRegs k (index-selects e (log (k .regs .words) l 0) i);
     stores = chose-count i;
     fifo = f;
     list = chose-list h i;
@@ -197,9 +199,29 @@ module _ (k : Record) (q : Ask) (w : Wanted) where
   unfolding impl-alloc.allocEpCall impl-alloc.allocEp
   alloc-ends = go (recordSound k)
     where
-      go : (p : Bool) → Ends k (allocEp q w) (allocated (impl-alloc.unlessAllocated (entryBy false p false) k (impl-alloc.allocEp k q w)))
+      go : (p : Bool) → Ends k (allocEp q w) (allocated (impl-alloc.unlessAllocated (admissionBy false p false) k (impl-alloc.allocEp k q w)))
       go false = refused 16 refl (alloc-among w .1) refl
       go true = handed-ends (given .answer) refl
+
+-- write and read by their tests, one beside the other
+module _ (k : Record) (e : ℕ) (b f l : List ℕ) where
+  abbrev first : Admission
+  first = admissionBy (short k (length f) (length l)) (recordSound k) (leb (endpointsOf k) e)
+
+  abbrev writeTests : Verdict
+  writeTests = testsBy first (write-call.ownTests (write-rows.unready k e) (write-rows.tooLong k e (length b)) (write-rows.notWritable k e (length b)))
+
+  abbrev writeOf : Verdict → WriteOutcome
+  writeOf v = write-outcome k (writeBy v (k .regs .board) (k .«control_state») (k .irq) (txSize k) e b f (log (k .regs .words) l 0))
+
+  write-is : writeCall k e b f l ≡ writeOf writeTests
+  write-is = writes.call-is k e b f l ∙ ap writeOf (tests-are k e (length b) (length f) (length l))
+
+  abbrev readTests : Verdict
+  readTests = testsBy first (read-call.ownTests (read-rows.unready k e) (read-rows.notReadable k e) (read-rows.notSetup k e (length b)))
+
+  read-is : readCall k e b f l ≡ reads.tested k e b f l readTests
+  read-is = reads.by-tests k e b f l ∙ ap (reads.tested k e b f l) (read-told k e (length b) (length f) (length l))
 
 -- the operations
 module _ (k : Record) where
@@ -207,32 +229,41 @@ module _ (k : Record) where
   Ended o = Ends k o (outcome k o)
 
   write-ends : (e : ℕ) (b f l : List ℕ) {m : ℕ} → write-rows.Given k e (length b) (length f) (length l) m → Ended (write e b f l)
-  unfolding write-call-write.writeCall write-call.tests write-call.ownTestsAt write-call-zero.blocked
-  write-ends e b f l (write-rows.done a s t u) = done refl (writes.exactly k e b f l 0 .1 (write-rows.done a s t u))
-  write-ends e b f l (write-rows.blocks a s) =
-      rw (a .lent, a .passes, a .there, s) (blocked e (writing e b f l) refl (blocks k e l f [] (lent-enough k (length f) (length l) (a .lent) .1)))
-  write-ends e b f l (write-rows.beyond p q r) = rw (p, q, r) (refused 8 refl refl refl)
-  write-ends e b f l (write-rows.long a s t) = rw (a .lent, a .passes, a .there, s, t) (refused 9 refl refl refl)
-  write-ends e b f l (write-rows.untaken a s t u) = rw (a .lent, a .passes, a .there, s, t, u) (refused 11 refl refl refl)
-  write-ends e b f l (write-rows.little p) = rw p (refused 15 refl refl refl)
-  write-ends e b f l (write-rows.unsound p q) = rw (p, q) (refused 16 refl refl refl)
+  unfolding blockedAfter
+  write-ends e b f l g = subst (λ (o : WriteOutcome). Ends k (write e b f l) (written o)) (sym (write-is k e b f l)) (go g)
+    where
+      go : {x : ℕ} → write-rows.Given k e (length b) (length f) (length l) x → Ends k (write e b f l) (written (writeOf k e b f l (writeTests k e b f l)))
+      go (write-rows.done a s t u) =
+          done refl (ap (λ (o : WriteOutcome). wroteNumber (o .result .answer)) (sym (write-is k e b f l)) ∙ writes.exactly k e b f l 0 .1 (write-rows.done a s t u))
+      go (write-rows.blocks a s) =
+          rw (a .lent, a .passes, a .there, s) (blocked e (writing e b f l) refl (blocks k e l f [] (lent-enough k (length f) (length l) (a .lent) .1)))
+      go (write-rows.beyond p q r) = rw (p, q, r) (refused 8 refl refl refl)
+      go (write-rows.long a s t) = rw (a .lent, a .passes, a .there, s, t) (refused 9 refl refl refl)
+      go (write-rows.untaken a s t u) = rw (a .lent, a .passes, a .there, s, t, u) (refused 11 refl refl refl)
+      go (write-rows.little p) = rw p (refused 15 refl refl refl)
+      go (write-rows.unsound p q) = rw (p, q) (refused 16 refl refl refl)
 
-  read-ends : (e : ℕ) (f l b : List ℕ) {m : ℕ} → read-rows.Given k e (length b) (length f) (length l) m → Ended (read e f l b)
-  unfolding read-call-read.readCall read-call.tests read-call.ownTestsAt read-call-zero.blocked
-  read-ends e f l b (read-rows.done a s t u) = done refl (reads.exactly k e f l b 0 .1 (read-rows.done a s t u))
-  read-ends e f l b (read-rows.blocks a s) =
-      rw (a .lent, a .passes, a .there, s) (blocked e (reading e f l b) refl (blocks k e l [] b (lent-enough k (length f) (length l) (a .lent) .1)))
-  read-ends e f l b (read-rows.beyond p q r) = rw (p, q, r) (refused 8 refl refl refl)
-  read-ends e f l b (read-rows.unreadable a s t) = rw (a .lent, a .passes, a .there, s, t) (refused 12 refl refl refl)
-  read-ends e f l b (read-rows.unset a s t u) = rw (a .lent, a .passes, a .there, s, t, u) (refused 13 refl refl refl)
-  read-ends e f l b (read-rows.little p) = rw p (refused 15 refl refl refl)
-  read-ends e f l b (read-rows.unsound p q) = rw (p, q) (refused 16 refl refl refl)
+  read-ends : (e : ℕ) (b f l : List ℕ) {m : ℕ} → read-rows.Given k e (length b) (length f) (length l) m → Ended (read e b f l)
+  unfolding blockedAfter
+  read-ends e b f l g = subst (λ (o : ReadOutcome). Ends k (read e b f l) (fetched o)) (sym (read-is k e b f l)) (go g)
+    where
+      go : {x : ℕ} → read-rows.Given k e (length b) (length f) (length l) x → Ends k (read e b f l) (fetched (reads.tested k e b f l (readTests k e b f l)))
+      go (read-rows.done a s t u) =
+          done refl (ap (λ (o : ReadOutcome). gotNumber (o .result .answer)) (sym (read-is k e b f l)) ∙ reads.exactly k e b f l 0 .1 (read-rows.done a s t u))
+      go (read-rows.blocks a s) =
+          rw (a .lent, a .passes, a .there, s) (blocked e (reading e b f l) refl (blocks k e l [] b (lent-enough k (length f) (length l) (a .lent) .1)))
+      go (read-rows.beyond p q r) = rw (p, q, r) (refused 8 refl refl refl)
+      go (read-rows.unreadable a s t) = rw (a .lent, a .passes, a .there, s, t) (refused 12 refl refl refl)
+      go (read-rows.unset a s t u) = rw (a .lent, a .passes, a .there, s, t, u) (refused 13 refl refl refl)
+      go (read-rows.little p) = rw p (refused 15 refl refl refl)
+      go (read-rows.unsound p q) = rw (p, q) (refused 16 refl refl refl)
 
   poll-ends : (l : List ℕ) → Ended (poll l)
-  unfolding pollCall
+  unfolding pollCall pollAdmitted recordSound
   poll-ends l = go (ltb (length l) 384) (recordSound k) refl refl
     where
-      go : (s p : Bool) → ltb (length l) 384 ≡ s → recordSound k ≡ p → Ends k (poll l) (polled (pollWhen (entryBy s p false) k l))
+      go : (s p : Bool) → ltb (length l) 384 ≡ s → recordSound k ≡ p
+          → Ends k (poll l) (polled (outcomeOf k (pollWhen (admissionBy s p false) (k .regs .board) (log (k .regs .words) l 0) (k .«control_state») (k .irq))))
       go true p x y = refused 15 refl refl refl
       go false false x y = refused 16 refl refl refl
       go false true x y =
@@ -282,7 +313,7 @@ module _ (k : Record) where
   ends (arrival e b f) = arrival-ends e b f
   ends (collection e f) = collection-ends e f
   ends (write e b f l) = write-ends e b f l (writes.exactly k e b f l _ .0 refl)
-  ends (read e f l b) = read-ends e f l b (reads.exactly k e f l b _ .0 refl)
+  ends (read e b f l) = read-ends e b f l (reads.exactly k e b f l _ .0 refl)
   ends (poll l) = poll-ends l
   ends onInterrupt = interrupt-ends
   ends forceReset = refused 7 refl refl refl

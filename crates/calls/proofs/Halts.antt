@@ -2,9 +2,8 @@
 use mathlib.Core.Path.{_≡_, refl, ap, _∙_}
 use mathlib.Core.Bool.{true}
 use mathlib.Core.Logic.{_⊎_, inl, inr}
-use Rattle.regs.specs.declared.Regs.{Regs}
 use Rattle.csr.specs.declared.Side.{Side}
-use Rattle.regs.specs.Registers.{Whole, sideAt}
+use Rattle.regs.specs.Registers.{File, Whole, sideAt}
 use Rattle.stores.specs.Promise.{SameHalts}
 use Rattle.events.proofs.Halts as events
 use Rattle.record.specs.declared.Record.{Record}
@@ -20,35 +19,35 @@ use Rattle.calls.proofs.Kept.{to-holds, Interrupts, refused as not-take
 
 module _ (k : Record) where
   -- the SendStall bits of registers that are given by an equation
-  through : {q r : Regs} → q ≡ r → SameHalts (k .regs) r → SameHalts (k .regs) q
-  through p h e d n = ap (λ (x : Regs). sideAt x e d .stall) p ∙ h e d n
+  through : {q r : File} → q ≡ r → SameHalts (k .regs .words) r → SameHalts (k .regs .words) q
+  through p h e d n = ap (λ (x : File). sideAt x e d .stall) p ∙ h e d n
 
-  unchanged : {q : Regs} → q ≡ k .regs → SameHalts (k .regs) q
+  unchanged : {q : File} → q ≡ k .regs .words → SameHalts (k .regs .words) q
   unchanged p = through p (λ e d n. refl)
 
-  call-halts : {q : Record} → Whole (k .regs) → Account (Gentle (k .regs .board)) k q → SameHalts (k .regs) (q .regs)
+  call-halts : {q : Record} → Whole (k .regs .words) → Account (Gentle (k .regs .board)) k q → SameHalts (k .regs .words) (q .regs .words)
   call-halts {q} six a = go (a .served)
     where
-      go : (q .regs ≡ k .regs) ⊎ (recordSound k ≡ true) → SameHalts (k .regs) (q .regs)
+      go : (q .regs .words ≡ k .regs .words) ⊎ (recordSound k ≡ true) → SameHalts (k .regs .words) (q .regs .words)
       go (inl p) = unchanged p
       go (inr s) = through (a .is) (same-halts (a .path) (to-holds k (record-is-sound k s) six))
 
-  event-halts : {q : Record} → Whole (k .regs) → Happens k q → SameHalts (k .regs) (q .regs)
-  event-halts six (refused p) = unchanged (ap (λ (x : Record). x .regs) p)
-  event-halts six (happened o i f p s) = through p (events.halts o (k .regs) six i)
+  event-halts : {q : Record} → Whole (k .regs .words) → Happens k q → SameHalts (k .regs .words) (q .regs .words)
+  event-halts six (refused p) = unchanged (ap (λ (x : Record). x .regs .words) p)
+  event-halts six (happened o i f c p s) = through p (events.halts o (k .regs .words) six i)
 
-  interrupt-halts : {q : Record} → Interrupts k q → SameHalts (k .regs) (q .regs)
+  interrupt-halts : {q : Record} → Interrupts k q → SameHalts (k .regs .words) (q .regs .words)
   unfolding interrupted
-  interrupt-halts (not-taken p) = unchanged (ap (λ (x : Record). x .regs) p)
+  interrupt-halts (not-taken p) = unchanged (ap (λ (x : Record). x .regs .words) p)
   interrupt-halts (taken s p) =
-      through (ap (λ (x : Record). x .regs) p) (λ e d n. ap (λ (x : Side). x .stall) (cleared-side (k .regs) e d))
+      through (ap (λ (x : Record). x .regs .words) p) (λ e d n. ap (λ (x : Side). x .stall) (cleared-side (k .regs .words) e d))
 
-  halts-of : {o : Op} → Whole (k .regs) → Accounted k o → SparesHalts k o
+  halts-of : {o : Op} → Whole (k .regs .words) → Accounted k o → SparesHalts k o
   halts-of six (gentle a) n = call-halts six a
   halts-of six (stalling w a) n = absurd (n w)
   halts-of six (event c h) n = event-halts six h
   halts-of six (interrupt c i) n = interrupt-halts i
 
--- of any record with six endpoints' registers: one that does not pass reply 16 is left as it was
-pub spares-halts : (k : Record) (o : Op) → Whole (k .regs) → SparesHalts k o
-spares-halts k o six = halts-of k six (account k o)
+-- of any record with a whole register file: one that does not pass reply 16 is left as it was
+pub spares-halts : (k : Record) (o : Op) → Whole (k .regs .words) → SparesHalts k o
+spares-halts k o six = halts-of k six (account k o six)

@@ -16,17 +16,18 @@ use Rattle.board.specs.declared.Direction.the-variants.{Out, In}
 use Rattle.board.specs.Table.{areaAt}
 use Rattle.board.specs.Boards.{rows, at-most-six, at-least-one}
 use Rattle.csr.specs.declared.Side.{Side}
-use Rattle.regs.specs.declared.Regs.{Regs}
-use Rattle.regs.specs.Registers.{sideAt}
+use Rattle.regs.specs.Registers.{File, sideAt}
+use Rattle.regs.specs.Sound.{Clean}
 use Rattle.csr.specs.Control.{dropped}
 use Rattle.csr.specs.Sound.{SideOk}
 use Rattle.events.specs.Events.{received, lapsed, arrived, intrusbCleared, intrCleared}
 use Rattle.events.specs.Promise.{Event, arrival, collection, reset, suspend, resume, setupend, miss, happens, leaves, at, Kept}
 use Rattle.events.proofs.Promises.{sides, rest, usb-read, usb-rest, word-read, word-rest}
+use Rattle.events.proofs.Others.{clean, usb-clean, word-clean}
 use Rattle.record.specs.declared.Record.{Record}
-use Rattle.record.specs.declared.Entry.{Entry}
-use Rattle.record.specs.declared.Entry.the-variants.{Clear, Refused}
-use Rattle.record.specs.Record.{recordSound, entryBy, areaOf, endpointsOf}
+use Rattle.record.specs.declared.Admission.{Admission}
+use Rattle.record.specs.declared.Admission.the-variants.{Clear, Refused}
+use Rattle.record.specs.Record.{recordSound, admissionBy, areaIn, areaOf, endpointsIn, endpointsOf}
 use Rattle.record.proofs.Rows.{none-refused}
 use Rattle.host.specs.Host as host
 use Rattle.host.proofs.Laws as laws
@@ -49,7 +50,7 @@ Fits b (miss e d) = Unit
 
 pub data Happens (k q : Record) : Type 0 where
   refused : q ≡ k → Happens k q
-  happened : (o : Event) → at o < 6 → Fits (k .regs .board) o → q .regs ≡ happens o (k .regs) → q .irq ≡ k .irq → Happens k q
+  happened : (o : Event) → at o < 6 → Fits (k .regs .board) o → q .regs .board ≡ k .regs .board → q .regs .words ≡ happens o (k .regs .words) → q .irq ≡ k .irq → Happens k q
 
 -- what an event leaves of a side that passes reply 16
 received-ok : (n size : ℕ) (s : Side) → n ≤ size → SideOk size (received n s)
@@ -72,17 +73,17 @@ module _ (b : Board) where
   leaves-ok (miss f c) e d s h ok = stays-ok _ (either (eqb e f) (one-way c d lapsed (alike refl refl))) ok
 
   -- the rest of what reply 16 asks of the registers
-  stands : {r q : Regs} → Kept r q → Standing b r → Standing b q
-  stands t s = record {
-    six = t .endpoints ∙ s .six;
-    board = t .board ∙ s .board;
+  stands : {r q : File} → Kept r q → Clean q → Standing b r → Standing b q
+  stands t c s = record {
+    six = t .whole ∙ s .six;
     selected = rw (t .selected) (s .selected);
     address = rw (t .addressed) (s .address);
+    clean = c;
   }
 
-  pub happens-holds : (o : Event) (r : Regs) → at o < 6 → Fits b o → Holds b r → Holds b (happens o r)
+  pub happens-holds : (o : Event) (r : File) → at o < 6 → Fits b o → Holds b r → Holds b (happens o r)
   happens-holds o r i h k = record {
-    standing = stands (rest o r) (k .standing);
+    standing = stands (rest o r) (clean o r (k .standing .six) (k .standing .clean)) (k .standing);
     side = λ (e : ℕ) (d : Direction). rw (sides o r e d (k .standing .six) i) (leaves-ok o e d _ h (k .side e d));
   }
 
@@ -91,32 +92,32 @@ module _ (k : Record) where
   abbrev b : Board
   b = k .regs .board
 
-  unless-refused : (o : Event) (t : Entry) → (t ≡ Clear → (at o < 6) × Fits b o) → Happens k (host.unless t k (happens o (k .regs)) .«record»)
+  unless-refused : (o : Event) (t : Admission) → (t ≡ Clear → (at o < 6) × Fits b o) → Happens k (host.unless t k (happens o (k .regs .words)) .«record»)
   unless-refused o (Refused x) f = refused refl
-  unless-refused o Clear f = let p = f refl in happened o (p .0) (p .1) refl refl
+  unless-refused o Clear f = let p = f refl in happened o (p .0) (p .1) refl refl refl
 
   pub bus-reset : Happens k (host.busResetCall k .«record»)
   unfolding host.busResetCall
-  bus-reset = unless-refused reset (entryBy false (recordSound k) false) (λ c. (lit< tt, tt))
+  bus-reset = unless-refused reset (admissionBy false (recordSound k) false) (λ c. (lit< tt, tt))
 
   pub bus-suspend : Happens k (host.suspendCall k .«record»)
   unfolding host.suspendCall
-  bus-suspend = unless-refused suspend (entryBy false (recordSound k) false) (λ c. (lit< tt, tt))
+  bus-suspend = unless-refused suspend (admissionBy false (recordSound k) false) (λ c. (lit< tt, tt))
 
   pub bus-resume : Happens k (host.resumeCall k .«record»)
   unfolding host.resumeCall
-  bus-resume = unless-refused resume (entryBy false (recordSound k) false) (λ c. (lit< tt, tt))
+  bus-resume = unless-refused resume (admissionBy false (recordSound k) false) (λ c. (lit< tt, tt))
 
   pub setup-end : Happens k (host.setupEndCall k .«record»)
   unfolding host.setupEndCall
-  setup-end = unless-refused setupend (entryBy false (recordSound k) false) (λ c. (lit< tt, tt))
+  setup-end = unless-refused setupend (admissionBy false (recordSound k) false) (λ c. (lit< tt, tt))
 
   right : (x y : Bool) → (x || y) ≡ false → y ≡ false
   right true y p = clash p
   right false y p = p
 
   missed : (e : ℕ) (d : Direction) → Happens k (host.missCall k e d .«record»)
-  unfolding host.missCall
+  unfolding host.missCall recordSound endpointsOf
   missed e d =
       unless-refused (miss e d) (host.missRefusal k e)
       (λ c. (le-trans (there k e (right (eqb e 0) (host.beyond k e) (none-refused false (recordSound k) _ c .2))) (at-most-six b), tt))
@@ -131,31 +132,31 @@ module _ (k : Record) where
 
   -- arrival and collection have tests of their own after the first ones
   arrives : (e n m : ℕ) → host.arrivalRefusal k e n m ≡ Clear → (e < 6) × (n ≤ areaAt (rows b) e Out .size)
-  unfolding host.arrivalRefusal areaOf
+  unfolding host.arrivalRefusal host.arrivalRefusalIn areaIn areaOf
   arrives e n m p =
-      let q = own (host.entryAt k e m) (ltb (areaOf k e Out .size) n) (sideAt (k .regs) e Out .ready) p in
+      let q = own (host.entryAt k e m) (ltb (areaOf k e Out .size) n) (sideAt (k .regs .words) e Out .ready) p in
       (laws.admitted k e m (q .0) .below, ltb-false _ _ (q .1))
     where
-      own : (t : Entry) (long waits : Bool) → host.arrivalBy t long waits ≡ Clear → (t ≡ Clear) × (long ≡ false)
+      own : (t : Admission) (long waits : Bool) → host.arrivalBy t long waits ≡ Clear → (t ≡ Clear) × (long ≡ false)
       own (Refused x) long waits e = laws.never e
       own Clear true waits e = laws.never e
       own Clear false true e = laws.never e
       own Clear false false e = (refl, refl)
 
-  unless-arrived : (e n : ℕ) (f x : List ℕ) (t : Entry) → (t ≡ Clear → (e < 6) × (n ≤ areaAt (rows b) e Out .size))
-      → Happens k (host.unlessArrived t k f (record { event = host.done k (arrived (k .regs) e n); fifo = x }) .event .«record»)
+  unless-arrived : (e n : ℕ) (f x : List ℕ) (t : Admission) → (t ≡ Clear → (e < 6) × (n ≤ areaAt (rows b) e Out .size))
+      → Happens k (host.unlessArrived t k f (record { event = host.done k (arrived (k .regs .words) e n); fifo = x }) .event .«record»)
   unless-arrived e n f x (Refused y) h = refused refl
-  unless-arrived e n f x Clear h = let q = h refl in happened (arrival e n) (q .0) (q .1) refl refl
+  unless-arrived e n f x Clear h = let q = h refl in happened (arrival e n) (q .0) (q .1) refl refl refl
 
   pub arrival-comes : (e : ℕ) (x f : List ℕ) → Happens k (host.arrivalCall k e x f .event .«record»)
   unfolding host.arrivalCall
   arrival-comes e x f = unless-arrived e (length x) f _ (host.arrivalRefusal k e (length x) (length f)) (arrives e (length x) (length f))
 
   collects : (e m : ℕ) → host.collectionRefusal k e m ≡ Clear → e < 6
-  unfolding host.collectionRefusal
-  collects e m p = laws.admitted k e m (own (host.entryAt k e m) (sideAt (k .regs) e In .ready) p) .below
+  unfolding host.collectionRefusal host.collectionRefusalIn
+  collects e m p = laws.admitted k e m (own (host.entryAt k e m) (sideAt (k .regs .words) e In .ready) p) .below
     where
-      own : (t : Entry) (waits : Bool) → host.collectionBy t waits ≡ Clear → t ≡ Clear
+      own : (t : Admission) (waits : Bool) → host.collectionBy t waits ≡ Clear → t ≡ Clear
       own (Refused x) waits e = laws.never e
       own Clear waits e = refl
 
@@ -163,34 +164,37 @@ module _ (k : Record) where
   unfolding host.collectionCall host.collectedFrom
   collection-comes e f = go (host.collectionRefusal k e (length f)) refl
     where
-      go : (t : Entry) → host.collectionRefusal k e (length f) ≡ t → Happens k (host.unlessCollected t k (host.collectedFrom k e) .«record»)
+      go : (t : Admission) → host.collectionRefusal k e (length f) ≡ t → Happens k (host.unlessCollected t k (host.collectedFrom k e) .«record»)
       go (Refused y) p = refused refl
-      go Clear p = happened (collection e) (collects e (length f) p) tt refl refl
+      go Clear p = happened (collection e) (collects e (length f) p) tt refl refl refl
 
 -- "Interrupt registers clear when read": nothing else of the registers changes
-pub cleared-side : (r : Regs) (e : ℕ) (d : Direction) → sideAt (cleared r) e d ≡ sideAt r e d
+pub cleared-side : (r : File) (e : ℕ) (d : Direction) → sideAt (cleared r) e d ≡ sideAt r e d
 unfolding cleared
 cleared-side r e d = word-read (intrCleared (intrusbCleared r) In) Out e d ∙ word-read (intrusbCleared r) In e d ∙ usb-read r e d
 
-pub cleared-rest : (r : Regs) → Kept r (cleared r)
+pub cleared-rest : (r : File) → Kept r (cleared r)
 unfolding cleared
 cleared-rest r =
     let x = usb-rest r in
     let y = word-rest (intrusbCleared r) In in
     let z = word-rest (intrCleared (intrusbCleared r) In) Out in
     record {
-      board = z .board ∙ y .board ∙ x .board;
-      endpoints = z .endpoints ∙ y .endpoints ∙ x .endpoints;
+      whole = z .whole ∙ y .whole ∙ x .whole;
       selected = z .selected ∙ y .selected ∙ x .selected;
       addressed = z .addressed ∙ y .addressed ∙ x .addressed;
     }
 
-pub cleared-holds : (b : Board) (r : Regs) → Holds b r → Holds b (cleared r)
+cleared-clean : (r : File) → Clean r → Clean (cleared r)
+unfolding cleared
+cleared-clean r k = word-clean (intrCleared (intrusbCleared r) In) Out (word-clean (intrusbCleared r) In (usb-clean r k))
+
+pub cleared-holds : (b : Board) (r : File) → Holds b r → Holds b (cleared r)
 cleared-holds b r k = record {
-  standing = stands b (cleared-rest r) (k .standing);
+  standing = stands b (cleared-rest r) (cleared-clean r (k .standing .clean)) (k .standing);
   side = λ (e : ℕ) (d : Direction). rw (cleared-side r e d) (k .side e d);
 }
 
 pub interrupt-low : (k : Record) → Low (k .regs .board) (k .irq) → Low (k .regs .board) (interrupted k .irq)
-unfolding interrupted endpointsOf
-interrupt-low k f = taken-low (length (rows (k .regs .board))) (snapshotOf (k .regs)) (k .irq) (at-least-one (k .regs .board)) (f .0) (f .1)
+unfolding interrupted endpointsIn endpointsOf
+interrupt-low k f = taken-low (length (rows (k .regs .board))) (snapshotOf (k .regs .words)) (k .irq) (at-least-one (k .regs .board)) (f .0) (f .1)

@@ -4,17 +4,16 @@ use mathlib.Core.Path.{_≡_, refl, sym, ap, subst, _∙_}
 use mathlib.Core.Bool.{Bool, true, false}
 use Rattle.board.specs.declared.Board.{Board}
 use Rattle.board.specs.declared.Direction.{Direction}
-use Rattle.regs.specs.declared.Regs.{Regs}
-use Rattle.regs.specs.Registers.{Whole}
-use Rattle.regs.proofs.Sides.{fresh-rest}
-use Rattle.events.proofs.Promises as events
+use lib.ListN.{length}
+use Rattle.regs.specs.Registers.{File, Whole, intrusb, intrOf}
+use Rattle.regs.proofs.Sides.{fresh-words, fresh-whole}
 use Rattle.record.specs.declared.Record.{Record}
-use Rattle.record.specs.Record.{freshRecord, recordSound, areaOf, SoundRecord}
+use Rattle.record.specs.Record.{freshRecord, recordSound, areaIn, areaOf, SoundRecord}
 use Rattle.record.proofs.Areas.{size-at}
 use Rattle.record.proofs.Passing.{fresh-passes}
 use Rattle.usb_device_interrupt.specs.Interrupt.{interrupted, interruptBy, interruptCall}
 use Rattle.calls.specs.Calls.{Op, allocEp, busInit, enable, reset, setDeviceAddress, write, read, setStalled, isStalled, poll, onInterrupt, forceReset, arrival, collection, busReset, suspend, resume, setupEnd, underrun, overrun, step}
-use Rattle.calls.specs.Kept.{Good, Stores, WritesStall}
+use Rattle.calls.specs.Kept.{Good, Pending, Stores, WritesStall}
 use Rattle.calls.proofs.Steps.{Sane, Gentle, Holds, keeps, holds}
 use Rattle.calls.proofs.Accounts.{Low, Account, left, sane}
 use Rattle.calls.proofs.Simple as simple
@@ -22,24 +21,25 @@ use Rattle.calls.proofs.Writing as writing
 use Rattle.calls.proofs.Reading as reading
 use Rattle.calls.proofs.Polling as polling
 use Rattle.calls.proofs.Happening as happening
-use Rattle.calls.proofs.Happening.{Happens, refused as not-happened, happened, happens-holds, cleared-rest, cleared-holds, interrupt-low}
+use Rattle.calls.proofs.Happening.{Happens, refused as not-happened, happened, happens-holds, cleared-holds, interrupt-low}
 
 -- reply 16 over the board's table, and back
 module _ (k : Record) where
-  pub to-holds : SoundRecord k → Whole (k .regs) → Holds (k .regs .board) (k .regs)
-  unfolding areaOf
+  pub to-holds : SoundRecord k → Whole (k .regs .words) → Holds (k .regs .board) (k .regs .words)
+  unfolding areaIn areaOf
   to-holds s six = record {
-    standing = record { six = six; board = refl; selected = s .regs .selected; address = s .regs .address };
+    standing = record { six = six; selected = s .regs .selected; address = s .regs .address; clean = s .regs .clean };
     side = λ (e : ℕ) (d : Direction). rw (size-at k e d) at (s .regs .side e d);
   }
 
-  good-by : Holds (k .regs .board) (k .regs) → Low (k .regs .board) (k .irq) → Good k
-  unfolding areaOf
+  good-by : Holds (k .regs .board) (k .regs .words) → Low (k .regs .board) (k .irq) → Good k
+  unfolding areaIn areaOf
   good-by h f = record {
     sound = record {
       regs = record {
         selected = h .standing .selected;
         address = h .standing .address;
+        clean = h .standing .clean;
         side = λ (e : ℕ) (d : Direction). rw (size-at k e d) (h .side e d);
       };
       tx = f .0;
@@ -49,14 +49,13 @@ module _ (k : Record) where
   }
 
 -- what is good for the board that the record had is good for the board that it has
-good-after : (k : Record) {b : Board} {r : Regs} → k .regs ≡ r → Holds b r → Low b (k .irq) → Good k
-good-after k {b} {r} is h f =
-    let same : b ≡ k .regs .board = sym (ap (λ (q : Regs). q .board) is ∙ h .standing .board) in
-    good-by k (subst (λ (c : Board). Holds c (k .regs)) same (subst (Holds b) (sym is) h)) (subst (λ (c : Board). Low c (k .irq)) same f)
+good-after : (k : Record) {b : Board} {r : File} → k .regs .board ≡ b → k .regs .words ≡ r → Holds b r → Low b (k .irq) → Good k
+good-after k {b} {r} same is h f =
+    good-by k (subst (λ (c : Board). Holds c (k .regs .words)) (sym same) (subst (Holds b) (sym is) h)) (subst (λ (c : Board). Low c (k .irq)) (sym same) f)
 
 pub good-fresh : (b : Board) → Good (freshRecord b)
 unfolding freshRecord
-good-fresh b = record { sound = fresh-passes b; six = fresh-rest b .4 }
+good-fresh b = record { sound = fresh-passes b; six = ap length (fresh-words b .0) ∙ fresh-whole }
 
 -- the interrupt: refused, or its registers are read and its flags taken
 pub data Interrupts (k q : Record) : Type 0 where
@@ -78,44 +77,44 @@ pub data Accounted (k : Record) (o : Op) : Type 0 where
   event : (Stores o → ⊥) → Happens k (step k o) → Accounted k o
   interrupt : (Stores o → ⊥) → Interrupts k (step k o) → Accounted k o
 
-pub account : (k : Record) (o : Op) → Accounted k o
-account k (allocEp q w) = gentle (simple.alloc-ep k q w)
-account k (busInit l) = gentle (simple.bus-init k l)
-account k (enable l) = gentle (simple.enable k l)
-account k (reset l) = stalling tt (simple.reset k l)
-account k (setDeviceAddress a l) = gentle (simple.set-device-address k a l)
-account k (write e b f l) = gentle (writing.write k e b f l)
-account k (read e f l b) = gentle (reading.read k e f l b)
-account k (setStalled e d s l) = stalling tt (simple.set-stalled k e d s l)
-account k (isStalled e d l) = gentle (simple.is-stalled k e d l)
-account k (poll l) = gentle (polling.poll k l)
-account k onInterrupt = interrupt (λ c. c) (on-interrupt k)
-account k forceReset = gentle (left refl refl)
-account k (arrival e b f) = event (λ c. c) (happening.arrival-comes k e b f)
-account k (collection e f) = event (λ c. c) (happening.collection-comes k e f)
-account k busReset = event (λ c. c) (happening.bus-reset k)
-account k suspend = event (λ c. c) (happening.bus-suspend k)
-account k resume = event (λ c. c) (happening.bus-resume k)
-account k setupEnd = event (λ c. c) (happening.setup-end k)
-account k (underrun e) = event (λ c. c) (happening.underrun k e)
-account k (overrun e) = event (λ c. c) (happening.overrun k e)
+pub account : (k : Record) (o : Op) → Whole (k .regs .words) → Accounted k o
+account k (allocEp q w) six = gentle (simple.alloc-ep k q w)
+account k (busInit l) six = gentle (simple.bus-init k l)
+account k (enable l) six = gentle (simple.enable k l)
+account k (reset l) six = stalling tt (simple.reset k l)
+account k (setDeviceAddress a l) six = gentle (simple.set-device-address k a l)
+account k (write e b f l) six = gentle (writing.write k e b f l six)
+account k (read e b f l) six = gentle (reading.read k e b f l)
+account k (setStalled e d s l) six = stalling tt (simple.set-stalled k e d s l)
+account k (isStalled e d l) six = gentle (simple.is-stalled k e d l)
+account k (poll l) six = gentle (polling.poll k l)
+account k onInterrupt six = interrupt (λ c. c) (on-interrupt k)
+account k forceReset six = gentle (left refl refl)
+account k (arrival e b f) six = event (λ c. c) (happening.arrival-comes k e b f)
+account k (collection e f) six = event (λ c. c) (happening.collection-comes k e f)
+account k busReset six = event (λ c. c) (happening.bus-reset k)
+account k suspend six = event (λ c. c) (happening.bus-suspend k)
+account k resume six = event (λ c. c) (happening.bus-resume k)
+account k setupEnd six = event (λ c. c) (happening.setup-end k)
+account k (underrun e) six = event (λ c. c) (happening.underrun k e)
+account k (overrun e) six = event (λ c. c) (happening.overrun k e)
 
 -- the record stays good
 module _ (k : Record) where
   call-good : {q : Record} → Account (Sane (k .regs .board)) k q → Good k → Good q
-  call-good {q} a g = good-after q (a .is) (holds (a .path) (to-holds k (g .sound) (g .six))) (a .flags (g .sound .tx, g .sound .rx))
+  call-good {q} a g = good-after q (a .board) (a .is) (holds (a .path) (to-holds k (g .sound) (g .six))) (a .flags (g .sound .tx, g .sound .rx))
 
   event-good : {q : Record} → Happens k q → Good k → Good q
   event-good (not-happened p) g = subst Good (sym p) g
-  event-good {q} (happened o i f p s) g =
-      good-after q p (happens-holds (k .regs .board) o (k .regs) i f (to-holds k (g .sound) (g .six))) (rw s (g .sound .tx, g .sound .rx))
+  event-good {q} (happened o i f c p s) g =
+      good-after q c p (happens-holds (k .regs .board) o (k .regs .words) i f (to-holds k (g .sound) (g .six))) (rw s (g .sound .tx, g .sound .rx))
 
   interrupt-good : {q : Record} → Interrupts k q → Good k → Good q
   unfolding interrupted
   interrupt-good (refused p) g = subst Good (sym p) g
   interrupt-good (taken s p) g =
       subst Good (sym p)
-      (good-after (interrupted k) refl (cleared-holds (k .regs .board) (k .regs) (to-holds k (g .sound) (g .six))) (interrupt-low k (g .sound .tx, g .sound .rx)))
+      (good-after (interrupted k) refl refl (cleared-holds (k .regs .board) (k .regs .words) (to-holds k (g .sound) (g .six))) (interrupt-low k (g .sound .tx, g .sound .rx)))
 
   good-of : {o : Op} → Accounted k o → Good k → Good (step k o)
   good-of (gentle a) g = call-good (sane a) g
@@ -124,34 +123,34 @@ module _ (k : Record) where
   good-of (interrupt n i) g = interrupt-good i g
 
 pub good-step : (k : Record) (o : Op) → Good k → Good (step k o)
-good-step k o g = good-of k (account k o) g
+good-step k o g = good-of k (account k o (g .six)) g
 
 -- no operation changes the board
 module _ (k : Record) where
   event-board : {q : Record} → Happens k q → q .regs .board ≡ k .regs .board
   event-board (not-happened p) = ap (λ (x : Record). x .regs .board) p
-  event-board (happened o i f p s) = ap (λ (r : Regs). r .board) p ∙ events.rest o (k .regs) .board
+  event-board (happened o i f c p s) = c
 
   interrupt-board : {q : Record} → Interrupts k q → q .regs .board ≡ k .regs .board
   unfolding interrupted
   interrupt-board (refused p) = ap (λ (x : Record). x .regs .board) p
-  interrupt-board (taken s p) = ap (λ (x : Record). x .regs .board) p ∙ cleared-rest (k .regs) .board
+  interrupt-board (taken s p) = ap (λ (x : Record). x .regs .board) p
 
   board-of : {o : Op} → Accounted k o → step k o .regs .board ≡ k .regs .board
-  board-of (gentle a) = ap (λ (r : Regs). r .board) (a .is) ∙ keeps (a .path) .board
-  board-of (stalling w a) = ap (λ (r : Regs). r .board) (a .is) ∙ keeps (a .path) .board
+  board-of (gentle a) = a .board
+  board-of (stalling w a) = a .board
   board-of (event n h) = event-board h
   board-of (interrupt n i) = interrupt-board i
 
-pub same-board : (k : Record) (o : Op) → step k o .regs .board ≡ k .regs .board
-same-board k o = board-of k (account k o)
+pub same-board : (k : Record) (o : Op) → Whole (k .regs .words) → step k o .regs .board ≡ k .regs .board
+same-board k o six = board-of k (account k o six)
 
 -- no call but `on_interrupt` changes a pending interrupt
-pending-of : (k : Record) {o : Op} → Accounted k o → Stores o → step k o .regs .pending ≡ k .regs .pending
-pending-of k (gentle a) c = ap (λ (r : Regs). r .pending) (a .is) ∙ keeps (a .path) .pending
-pending-of k (stalling w a) c = ap (λ (r : Regs). r .pending) (a .is) ∙ keeps (a .path) .pending
-pending-of k (event n h) c = absurd (n c)
-pending-of k (interrupt n i) c = absurd (n c)
+pending-of : (k : Record) {o : Op} → Whole (k .regs .words) → Accounted k o → Stores o → Pending k (step k o)
+pending-of k six (gentle a) c = let t = keeps six (a .path) in record { usb = ap intrusb (a .is) ∙ t .usb; intr = λ d. ap (λ (r : File). intrOf r d) (a .is) ∙ t .intr d }
+pending-of k six (stalling w a) c = let t = keeps six (a .path) in record { usb = ap intrusb (a .is) ∙ t .usb; intr = λ d. ap (λ (r : File). intrOf r d) (a .is) ∙ t .intr d }
+pending-of k six (event n h) c = absurd (n c)
+pending-of k six (interrupt n i) c = absurd (n c)
 
-pub same-pending : (k : Record) (o : Op) → Stores o → step k o .regs .pending ≡ k .regs .pending
-same-pending k o c = pending-of k (account k o) c
+pub same-pending : (k : Record) (o : Op) → Whole (k .regs .words) → Stores o → Pending k (step k o)
+same-pending k o six c = pending-of k six (account k o six) c

@@ -27,13 +27,13 @@ use Rattle.control_state.specs.declared.ControlStateEnum.{ControlStateEnum}
 use Rattle.control_state.specs.declared.ControlStateEnum.the-variants.{Idle, Setup, DataIn, DataOut, Accepted, NodataPhase}
 use Rattle.record.specs.declared.Flags.{Flags}
 use Rattle.record.specs.declared.Record.{Record}
-use Rattle.record.specs.declared.Entry.{Entry}
-use Rattle.record.specs.declared.Entry.the-variants.{Clear, Refused}
-use Rattle.record.specs.Record.{recordSound, entryBy}
+use Rattle.record.specs.declared.Admission.{Admission}
+use Rattle.record.specs.declared.Admission.the-variants.{Clear, Refused}
+use Rattle.record.specs.Record.{recordSound, admissionBy, endpointsIn}
 use Rattle.record.proofs.Passing.{record-is-sound}
 use Rattle.poll_zero.specs.Round.{Round, round, withEp0, sentBy, setupTaken, restarted, cutShort, receivedBy, zeroBy, zeroServed, endpointZero, putBack, acceptedBy, acceptStep}
 use Rattle.poll_walk.specs.Round.{Walk, walk, readyAt, drained, visit, walked}
-use Rattle.usb_device_poll.specs.Poll.{PollOutcome, ended, walkedOn, acceptedOn, roundOut, pollBy, pollLogged, pollServed, pollWhen, pollCall}
+use Rattle.usb_device_poll.specs.Poll.{After, outcomeOf, ended, walkedOn, acceptedOn, roundOut, pollBy, pollLogged, pollServed, pollWhen, pollAdmitted, pollCall}
 use Rattle.laws.proofs.Tests.{clash}
 use Rattle.calls.proofs.Steps.{Reached, none, then, one, Gentle}
 use Rattle.calls.proofs.Accounts.{Low, Account, left, by-test, tx-modifies, rx-modifies, zero-modifies, passes}
@@ -71,10 +71,6 @@ bits-below n w (suc m) l h a = bits-below n w m (cond (bit w m) (m ∷ l) l) h (
 set-below : (n w : ℕ) → w < 2 ^ n → AllBelow n (setBits w)
 unfolding setBits
 set-below n w h = bits-below n w 6 [] h tt
-
--- the log that a poll leaves
-abbrev after : PollOutcome → Log
-after o = log (o .result .«record» .regs) (o .list) (o .result .stores)
 
 module _ (b : Board) (g : Log) where
   abbrev Path : Log → Type 0
@@ -168,48 +164,52 @@ module _ (b : Board) (g : Log) where
       visits flags es (visit flags o e) h (a .1) (then r (one (index e)) (a .0, tt))
       (by-test (λ (w : ℕ). w < 2 ^ length (rows b)) (readyAt e (writeIndex e (o .log) .regs)) k (cleared-low _ flags e h))
 
-  abbrev Ends : PollOutcome → Type 0
-  Ends o = Path (after o) × Low b (o .result .«record» .irq)
+  abbrev Ends : After → Type 0
+  Ends o = Path (o .log) × Low b (o .irq)
 
-  round-ends : (k : Record) (h : Log) → Path h → Low b (k .irq) → Ends (roundOut k h)
+  round-ends : (h : Log) (c : ControlState) (f : Flags) → Path h → Low b f → Ends (roundOut h c f)
   unfolding roundOut acceptedOn walkedOn ended walked acceptStep
-  round-ends k h r low =
-      let z = zero-fine h (k .«control_state») (k .irq) r low in
-      let o = endpointZero h (k .«control_state») (k .irq) in
+  round-ends h c f r low =
+      let z = zero-fine h c f r low in
+      let o = endpointZero h c f in
       let a = accept-low (o .control .state) (o .control) (o .irq) (z .1) in
       let flags = acceptedBy (o .control .state) (o .control) (o .irq) .irq .«ep_rx» in
       let w = visits flags (setBits flags) (walk (o .log) flags) (a .1) (set-below _ flags (a .1)) (z .0) (a .1) in
       (w .0, (pow-pos _, w .1))
 
-  by-flags : (x y z : Bool) (k : Record) (h : Log) → Path h → Low b (k .irq) → Ends (pollBy x y z k h)
-  by-flags true y z k h r low = (r, low)
-  by-flags false true z k h r low = (r, low)
-  by-flags false false true k h r low = (r, low)
-  by-flags false false false k h r low = round-ends k h r low
+  by-flags : (x y z : Bool) (h : Log) (c : ControlState) (f : Flags) → Path h → Low b f → Ends (pollBy x y z h c f)
+  by-flags true y z h c f r low = (r, low)
+  by-flags false true z h c f r low = (r, low)
+  by-flags false false true h c f r low = (r, low)
+  by-flags false false false h c f r low = round-ends h c f r low
 
 module _ (k : Record) (l : List ℕ) where
   abbrev board : Board
   board = k .regs .board
 
   abbrev start : Log
-  start = log (k .regs) l 0
+  start = log (k .regs .words) l 0
 
   low : recordSound k ≡ true → Low board (k .irq)
   low s = let t = record-is-sound k s in (t .tx, t .rx)
 
-  ends : Low board (k .irq) → Ends board start (pollServed k l)
-  unfolding pollServed pollLogged checkOverrun repairedBelow
+  abbrev whenServed : After
+  whenServed = pollServed board start (k .«control_state») (k .irq)
+
+  ends : Low board (k .irq) → Ends board start whenServed
+  unfolding pollServed pollLogged checkOverrun repairedBelow endpointsIn
   ends f =
-      by-flags board start (k .irq .reset) (k .irq .resume) (k .irq .suspend) k _
+      by-flags board start (k .irq .reset) (k .irq .resume) (k .irq .suspend) _ (k .«control_state») (k .irq)
       (repair-all board start _ 1 start (omega (arith, at-least-one board)) none) f
 
   pub poll : Account (Gentle board) k (pollCall k l .result .«record»)
-  unfolding pollCall
-  poll = go (entryBy (ltb (length l) 384) (recordSound k) false) refl
+  unfolding pollCall pollAdmitted recordSound
+  poll = go (admissionBy (ltb (length l) 384) (recordSound k) false) refl
     where
-      go : (t : Entry) → entryBy (ltb (length l) 384) (recordSound k) false ≡ t → Account (Gentle board) k (pollWhen t k l .result .«record»)
+      go : (t : Admission) → admissionBy (ltb (length l) 384) (recordSound k) false ≡ t
+          → Account (Gentle board) k (outcomeOf k (pollWhen t board start (k .«control_state») (k .irq)) .result .«record»)
       go (Refused x) e = left refl refl
       go Clear e =
           let s = passes (ltb (length l) 384) (recordSound k) false e in
           let p = ends (low s) in
-          record { list = l; last = after (pollServed k l); path = p .0; is = refl; served = inr s; flags = λ _. p .1 }
+          record { list = l; last = whenServed .log; path = p .0; is = refl; board = refl; served = inr s; flags = λ _. p .1 }

@@ -1,9 +1,9 @@
 -- The account of `read`: the index, the store that drops the packet, and DataEnd where the data end. Assumes nothing.
 use Prim.Native.Nat.{ℕ, _<_}
-use mathlib.Core.Path.{_≡_, refl}
+use mathlib.Core.Path.{_≡_, refl, sym, ap, subst, _∙_}
 use mathlib.Core.Bool.{true}
 use mathlib.Core.List.{List}
-use lib.Dec.{eqb, ltb}
+use lib.Dec.{eqb, ltb, leb}
 use lib.ListN.{length}
 use Rattle.board.specs.declared.Board.{Board}
 use Rattle.board.specs.Boards.{rows}
@@ -15,12 +15,15 @@ use Rattle.control_state.specs.declared.ControlState.{ControlState}
 use Rattle.control_state.specs.declared.ControlStateEnum.{ControlStateEnum}
 use Rattle.control_state.specs.declared.ControlStateEnum.the-variants.{Idle, Setup, DataIn, DataOut, Accepted, NodataPhase}
 use Rattle.record.specs.declared.Record.{Record}
-use Rattle.record.specs.Record.{recordSound}
-use Rattle.read_zero.specs.Read.{Ran, blocked, ended, wLength, setUp, rxSize, dataOut, zeroBy, readZero}
-use Rattle.read_tests.specs.Read.{waiting, ownTestsAt, tests}
-use Rattle.usb_device_read.specs.Read.{copied, readOther, got, taken, readCall}
-use Rattle.usb_device_read.specs.Replies.{Given, done as granted, blocks, beyond, unreadable, unset, little, unsound}
-use Rattle.usb_device_read.proofs.Answers.{exactly}
+use Rattle.record.specs.Record.{recordSound, endpointsOf, admissionBy}
+use Rattle.peek.specs.declared.Verdict.{Verdict}
+use Rattle.peek.specs.Peek.{short, testsBy, After, after, leaving, blocked, ended}
+use Rattle.read_zero.specs.Read.{wLength, setUp, rxSize, dataOut, zeroBy, readZero}
+use Rattle.read_tests.specs.Read.{ownTests}
+use Rattle.usb_device_read.specs.Read.{ReadOutcome, readOther, got, taken, readCall}
+use Rattle.usb_device_read.specs.Replies.{unready, notReadable, notSetup, Given, done as granted, blocks, beyond, unreadable, unset, little, unsound}
+use Rattle.usb_device_read.proofs.Verdicts.{told}
+use Rattle.usb_device_read.proofs.Answers.{tested, by-tests, exactly}
 use Rattle.calls.proofs.Steps.{Reached, none, then, one, Gentle}
 use Rattle.calls.proofs.Accounts.{Account, left, stores, by-test, rx-modifies, zero-modifies, there}
 
@@ -29,55 +32,66 @@ module _ (k : Record) (ep n : ℕ) (l : List ℕ) (s : recordSound k ≡ true) (
   b = k .regs .board
 
   abbrev begun : Log
-  begun = log (k .regs) l 0
+  begun = log (k .regs .words) l 0
 
   abbrev Path : Log → Type 0
   Path h = Reached (Gentle b) begun h
 
-  abbrev Fine : Ran → Type 0
-  Fine o = Account (Gentle b) k (o .result .«record»)
+  abbrev Fine : After → Type 0
+  Fine o = Account (Gentle b) k (leaving k o)
 
   selects : Path (writeIndex ep begun)
   selects = then none (one (index ep)) (i, tt)
 
-  ends : (c : ControlState) (g : Log) → Path g → Fine (ended c n k g)
+  finish : (c : ControlState) (g : Log) → Path g → Fine (after c (k .irq) g)
+  finish c g r = stores l g s r refl refl refl
+
+  ends : (c : ControlState) (g : Log) → Path g → Fine (ended c (k .irq) g)
   unfolding ended
-  ends c g r = stores l _ s (zero-modifies r csr0l.DataEnd) refl refl
+  ends c g r = finish c _ (zero-modifies r csr0l.DataEnd)
 
-  set-up : (x : List ℕ) (g : Log) → Path g → Fine (setUp x n k g)
+  set-up : (x : List ℕ) (c : ControlState) (g : Log) → Path g → Fine (setUp x c (k .irq) g)
   unfolding setUp
-  set-up x g r = by-test Fine (eqb (wLength x) 0) (ends _ g r) (stores l g s r refl refl)
+  set-up x c g r = by-test Fine (eqb (wLength x) 0) (ends _ g r) (finish _ g r)
 
-  out-data : (g : Log) → Path g → Fine (dataOut n k g)
+  out-data : (size : ℕ) (c : ControlState) (g : Log) → Path g → Fine (dataOut n size c (k .irq) g)
   unfolding dataOut
-  out-data g r = by-test Fine (ltb n (rxSize k)) (ends _ g r) (stores l g s r refl refl)
+  out-data size c g r = by-test Fine (ltb n size) (ends _ g r) (finish c g r)
 
-  at-zero : (c : ControlStateEnum) (x : List ℕ) (g : Log) → Path g → Fine (zeroBy c x n k g)
-  at-zero Setup x g r = set-up x g r
-  at-zero DataOut x g r = out-data g r
-  at-zero Idle x g r = stores l g s r refl refl
-  at-zero DataIn x g r = stores l g s r refl refl
-  at-zero Accepted x g r = stores l g s r refl refl
-  at-zero NodataPhase x g r = stores l g s r refl refl
+  at-zero : (t : ControlStateEnum) (x : List ℕ) (size : ℕ) (c : ControlState) (g : Log) → Path g → Fine (zeroBy t x n size c (k .irq) g)
+  at-zero Setup x size c g r = set-up x c g r
+  at-zero DataOut x size c g r = out-data size c g r
+  at-zero Idle x size c g r = finish c g r
+  at-zero DataIn x size c g r = finish c g r
+  at-zero Accepted x size c g r = finish c g r
+  at-zero NodataPhase x size c g r = finish c g r
 
-  gets : (x : List ℕ) → Fine (got k ep x n (writeIndex ep begun))
+  gets : (x : List ℕ) (size : ℕ) → Fine (got ep x n size (k .«control_state») (k .irq) (writeIndex ep begun))
   unfolding got readZero readOther
-  gets x =
-      by-test Fine (eqb ep 0) (at-zero (k .«control_state» .state) x _ (zero-modifies selects csr0l.ServicedRxPktRdy))
-      (stores l _ s (rx-modifies selects rxcsrl.NoRxPktRdy) refl refl)
+  gets x size =
+      by-test Fine (eqb ep 0) (at-zero (k .«control_state» .state) x size (k .«control_state») _ (zero-modifies selects csr0l.ServicedRxPktRdy))
+      (finish (k .«control_state») _ (rx-modifies selects rxcsrl.NoRxPktRdy))
 
-module _ (k : Record) (ep : ℕ) (f l b : List ℕ) where
+module _ (k : Record) (ep : ℕ) (b f l : List ℕ) where
+  -- the tests, one beside the other
+  abbrev tests : Verdict
+  tests =
+      testsBy (admissionBy (short k (length f) (length l)) (recordSound k) (leb (endpointsOf k) ep))
+      (ownTests (unready k ep) (notReadable k ep) (notSetup k ep (length b)))
+
   -- by the row of the reply that is given
-  by-row : {m : ℕ} → Given k ep (length b) (length f) (length l) m → Account (Gentle (k .regs .board)) k (readCall k ep f l b .result .«record»)
-  unfolding readCall tests ownTestsAt taken blocked
-  by-row (granted a s t u) =
-      rw (a .lent, a .passes, a .there, s, t, u) (gets k ep (waiting k ep) l (a .passes) (there k ep (a .there)) (copied k ep f b))
-  by-row (blocks a s) = rw (a .lent, a .passes, a .there, s) (stores l _ (a .passes) (selects k ep 0 l (a .passes) (there k ep (a .there))) refl refl)
+  by-row : {m : ℕ} → Given k ep (length b) (length f) (length l) m → Account (Gentle (k .regs .board)) k (tested k ep b f l tests .result .«record»)
+  unfolding taken blocked
+  by-row (granted a s t u) = rw (a .lent, a .passes, a .there, s, t, u) (gets k ep _ l (a .passes) (there k ep (a .there)) _ (rxSize k))
+  by-row (blocks a s) =
+      rw (a .lent, a .passes, a .there, s) (stores l _ (a .passes) (selects k ep 0 l (a .passes) (there k ep (a .there))) refl refl refl)
   by-row (beyond p q r) = rw (p, q, r) (left refl refl)
   by-row (unreadable a s t) = rw (a .lent, a .passes, a .there, s, t) (left refl refl)
   by-row (unset a s t u) = rw (a .lent, a .passes, a .there, s, t, u) (left refl refl)
   by-row (little p) = rw p (left refl refl)
   by-row (unsound p q) = rw (p, q) (left refl refl)
 
-  pub read : Account (Gentle (k .regs .board)) k (readCall k ep f l b .result .«record»)
-  read = by-row (exactly k ep f l b _ .0 refl)
+  pub read : Account (Gentle (k .regs .board)) k (readCall k ep b f l .result .«record»)
+  read =
+      subst (λ (o : ReadOutcome). Account (Gentle (k .regs .board)) k (o .result .«record»))
+      (sym (by-tests k ep b f l ∙ ap (tested k ep b f l) (told k ep (length b) (length f) (length l)))) (by-row (exactly k ep b f l _ .0 refl))

@@ -27,9 +27,9 @@ use Rattle.stores.proofs.Promises.{modify-csr0l, modify-txcsrl, modify-rxcsrl, 
 use Rattle.common_impl.specs.Common.{busInit, selected, stallCsr0l, writeCsrl, epTxStall, epRxStall, isStalled}
 use Rattle.enabling.specs.Common.{flushedZero, enabledZero, sized, settled, isoWritten, waits, flush, flushed, enabledOther, enabled, epTxEnable, epRxEnable}
 use Rattle.record.specs.declared.Record.{Record}
-use Rattle.record.specs.declared.Entry.{Entry}
-use Rattle.record.specs.declared.Entry.the-variants.{Clear, Refused}
-use Rattle.record.specs.Record.{recordSound, endpointsOf, entryBy}
+use Rattle.record.specs.declared.Admission.{Admission}
+use Rattle.record.specs.declared.Admission.the-variants.{Clear, Refused}
+use Rattle.record.specs.Record.{recordSound, endpointsIn, endpointsOf, admissionBy}
 use Rattle.host.proofs.Laws.{never}
 use Rattle.usb_device_impl.specs.Calls.{stored, unless, short, begun, beyond, busInitCall, enableCall, idled, addressEntry, addressCall}
 use Rattle.usb_device_reset.specs.Calls.{txEnabled, rxEnabled, usedEnabled, enabledBelow, resetStores, resetCall}
@@ -39,11 +39,11 @@ use Rattle.calls.proofs.Steps.{Step, one, Reached, none, then, Sane, Ge
 use Rattle.calls.proofs.Accounts.{Account, left, stores, by-test, txModify, rxModify, zeroModify, passes, below}
 
 -- the tests of a call, and of one at an endpoint
-abbrev lent : Record → List ℕ → Entry
-lent k l = entryBy (short l) (recordSound k) false
+abbrev lent : Record → List ℕ → Admission
+lent k l = admissionBy (short l) (recordSound k) false
 
-abbrev lentAt : Record → ℕ → List ℕ → Entry
-lentAt k e l = entryBy (short l) (recordSound k) (beyond k e)
+abbrev lentAt : Record → ℕ → List ℕ → Admission
+lentAt k e l = admissionBy (short l) (recordSound k) (beyond k e)
 
 lent-passes : (k : Record) (l : List ℕ) → lent k l ≡ Clear → recordSound k ≡ true
 lent-passes k l c = passes (short l) (recordSound k) false c
@@ -53,15 +53,15 @@ at-passes k e l c = passes (short l) (recordSound k) (beyond k e) c
 
 -- a call that is refused stores nothing
 module _ {May : Step → Log → Type 0} (k : Record) (l : List ℕ) where
-  unless-refused : (c : ControlState) (g : Log) (t : Entry) → (t ≡ Clear → recordSound k ≡ true) → (t ≡ Clear → Reached May (begun k l) g)
+  unless-refused : (c : ControlState) (g : Log) (t : Admission) → (t ≡ Clear → recordSound k ≡ true) → (t ≡ Clear → Reached May (begun k l) g)
       → Account May k (unless t k l (stored k c g) .call .«record»)
   unless-refused c g (Refused x) s f = left refl refl
-  unless-refused c g Clear s f = stores l g (s refl) (f refl) refl refl
+  unless-refused c g Clear s f = stores l g (s refl) (f refl) refl refl refl
 
-  told-unless : (b : Bool) (g : Log) (t : Entry) → (t ≡ Clear → recordSound k ≡ true) → (t ≡ Clear → Reached May (begun k l) g)
+  told-unless : (b : Bool) (g : Log) (t : Admission) → (t ≡ Clear → recordSound k ≡ true) → (t ≡ Clear → Reached May (begun k l) g)
       → Account May k (unlessTold t k l (toldOf k b g) .call .«record»)
   told-unless b g (Refused x) s f = left refl refl
-  told-unless b g Clear s f = stores l g (s refl) (f refl) refl refl
+  told-unless b g Clear s f = stores l g (s refl) (f refl) refl refl refl
 
 -- the calls that leave SendStall alone
 module _ (k : Record) where
@@ -70,9 +70,9 @@ module _ (k : Record) where
 
   pub alloc-ep : (q : Ask) (w : Wanted) → Account (Gentle b) k (allocEpCall k q w .«record»)
   unfolding allocEpCall allocEp
-  alloc-ep q w = go (entryBy false (recordSound k) false)
+  alloc-ep q w = go (admissionBy false (recordSound k) false)
     where
-      go : (t : Entry) → Account (Gentle b) k (unlessAllocated t k (allocEp k q w) .«record»)
+      go : (t : Admission) → Account (Gentle b) k (unlessAllocated t k (allocEp k q w) .«record»)
       go (Refused x) = left refl refl
       go Clear = left refl refl
 
@@ -93,7 +93,7 @@ module _ (k : Record) where
       (λ c. lent-passes k l (passed (lent k l) (leb a 127) c .0))
       (λ c. then none (one (faddr a)) (leb-true a 127 (passed (lent k l) (leb a 127) c .1), tt))
     where
-      passed : (t : Entry) (fits : Bool) → addressEntry t fits ≡ Clear → (t ≡ Clear) × (fits ≡ true)
+      passed : (t : Admission) (fits : Bool) → addressEntry t fits ≡ Clear → (t ≡ Clear) × (fits ≡ true)
       passed (Refused x) fits c = (c, never c)
       passed Clear true c = (refl, refl)
       passed Clear false c = never c
@@ -128,7 +128,7 @@ module _ (b : Board) (g : Log) where
       by-test Made (eqb e 0) (zero-made s s _ q) (csrl-made Out s (not s) _ q)
 
   intre-made : (d : Direction) (e : ℕ) (h : Log) → Made h → Made (modifyIntre d e h)
-  intre-made d e h r = rw (modify-intre d e h) (then r (one (intre d (raised (enabledOf d (h .regs .enable)) e))) tt)
+  intre-made d e h r = rw (modify-intre d e h) (then r (one (intre d (raised (enabledOf d (h .regs)) e))) tt)
 
   serviced-made : (h : Log) → Made h → Made (modifyCsr0l ServicedBoth h)
   serviced-made h r = rw (modify-csr0l ServicedBoth h) (then r (one (zeroModify ServicedBoth h)) tt)
@@ -175,7 +175,7 @@ module _ (k : Record) where
       (λ c. stall-made (k .regs .board) (begun k l) d e s (begun k l) (below k e (short l) (recordSound k) c) none)
 
   pub reset : (l : List ℕ) → Account (Sane (k .regs .board)) k (resetCall k l .call .«record»)
-  unfolding resetCall resetStores endpointsOf
+  unfolding resetCall resetStores endpointsIn endpointsOf
   reset l =
       unless-refused k l (idled (k .«control_state»)) _ (lent k l) (lent-passes k l)
       (λ c. all-made (k .regs .board) (begun k l) (k .endpoints) (length (rows (k .regs .board))) _ (omega arith) (then none (one power) tt))

@@ -15,14 +15,16 @@ use Rattle.board.specs.declared.Direction.the-variants.{Out, In}
 use Rattle.board.specs.Table.{areaAt}
 use Rattle.board.specs.Boards.{rows, at-most-six}
 use Rattle.csr.specs.declared.Side.{Side}
-use Rattle.regs.specs.declared.Regs.{Regs}
-use Rattle.regs.specs.Registers.{Whole, sideAt, chosen}
+use Rattle.regs.specs.Registers as file
+use Rattle.regs.specs.Registers.{File, Whole, sideAt, chosen}
+use Rattle.regs.specs.Sound.{Clean}
 use Rattle.csr.specs.Registers.{withIso, withMaxp, withLen}
 use Rattle.csr.specs.Control.{txStored, rxStored}
 use Rattle.csr.specs.Sound.{SideOk}
 use Rattle.stores.specs.Stores.{Log}
 use Rattle.stores.specs.Promise.{Store, faddr, power, index, csr0l, csr0h, txcsrl, rxcsrl, iso, maxp, intrusbe, intre, packet, does, leaves, selects, addresses, SameHalts}
 use Rattle.stores.proofs.Promises.{sides, rest}
+use Rattle.stores.proofs.Others.{clean}
 use Rattle.stores.proofs.Halts.{SameStall, halts}
 use Rattle.laws.proofs.Tests.{clash}
 use Rattle.csr.proofs.Tame.{Tame, stays-ok, same, either, one-way, alike, tx-tame, rx-tame, zero-tame, dropped-tame}
@@ -61,12 +63,12 @@ Proper b intrusbe = Unit
 Proper b (intre d v) = Unit
 
 -- the store sets the ready bit of the selected transmit side
-abbrev pub Readies : Store → Regs → Type 0
-Readies o r = leaves o (r .index) (r .index) In (chosen r In) .ready ≡ true
+abbrev pub Readies : Store → File → Type 0
+Readies o r = leaves o (file.index r) (file.index r) In (chosen r In) .ready ≡ true
 
 -- a packet that is sent fits its area
 pub record Sends (b : Board) (n : ℕ) (o : Store) (g : Log) : Type 0 where
-  pub fits : n ≤ areaAt (rows b) (g .regs .index) In .size
+  pub fits : n ≤ areaAt (rows b) (file.index (g .regs)) In .size
   pub proper : Proper b o
   pub readies : Readies o (does (packet n) g .regs)
 
@@ -85,41 +87,41 @@ Gentle b s g = Sane b s g × SameStalls s g
 pub gentle-sane : {b : Board} {g h : Log} → Reached (Gentle b) g h → Reached (Sane b) g h
 gentle-sane r = weaken (λ s x m. m .0) r
 
--- the parts of the registers that any step keeps
-pub record Same (r q : Regs) : Type 0 where
-  pub board : q .board ≡ r .board
-  pub pending : q .pending ≡ r .pending
-  pub endpoints : length (q .eps) ≡ length (r .eps)
+-- the parts of the registers that any step keeps: the pending interrupts, and that there are 46 numbers
+pub record Same (r q : File) : Type 0 where
+  pub usb : file.intrusb q ≡ file.intrusb r
+  pub intr : (d : Direction) → file.intrOf q d ≡ file.intrOf r d
+  pub six : Whole q
 
-same-one : {r : Regs} (o : Store) (g : Log) → Same r (g .regs) → Same r (does o g .regs)
+same-one : {r : File} (o : Store) (g : Log) → Same r (g .regs) → Same r (does o g .regs)
 same-one o g k =
-    let t = rest o g in
-    record { board = t .board ∙ k .board; pending = t .pending ∙ k .pending; endpoints = t .endpoints ∙ k .endpoints }
+    let t = rest o g (k .six) in
+    record { usb = t .usb ∙ k .usb; intr = λ d. t .intr d ∙ k .intr d; six = t .whole ∙ k .six }
 
-pub keeps : {May : Step → Log → Type 0} {g h : Log} → Reached May g h → Same (g .regs) (h .regs)
-keeps none = record { board = refl; pending = refl; endpoints = refl }
-keeps (then {h} r (one o) m) = same-one o h (keeps r)
-keeps (then {h} r (sent n o) m) = same-one o (does (packet n) h) (same-one (packet n) h (keeps r))
+pub keeps : {May : Step → Log → Type 0} {g h : Log} → Whole (g .regs) → Reached May g h → Same (g .regs) (h .regs)
+keeps six none = record { usb = refl; intr = λ d. refl; six = six }
+keeps six (then {h} r (one o) m) = same-one o h (keeps six r)
+keeps six (then {h} r (sent n o) m) = same-one o (does (packet n) h) (same-one (packet n) h (keeps six r))
 
--- reply 16's register part, and that six endpoints stand in the record
-pub record Standing (b : Board) (r : Regs) : Type 0 where
+-- reply 16's register part, for a board, of a file of 46 numbers
+pub record Standing (b : Board) (r : File) : Type 0 where
   pub six : Whole r
-  pub board : r .board ≡ b
-  pub selected : r .index < length (rows b)
-  pub address : r .faddr ≤ 127
+  pub selected : file.index r < length (rows b)
+  pub address : file.faddr r ≤ 127
+  pub clean : Clean r
 
-pub record Holds (b : Board) (r : Regs) : Type 0 where
+pub record Holds (b : Board) (r : File) : Type 0 where
   pub standing : Standing b r
   pub side : (e : ℕ) (d : Direction) → SideOk (areaAt (rows b) e d .size) (sideAt r e d)
 
-pub within-six : {b : Board} {r : Regs} → Standing b r → r .index < 6
+pub within-six : {b : Board} {r : File} → Standing b r → file.index r < 6
 within-six {b} k = le-trans (k .selected) (at-most-six b)
 
-stands : {b : Board} (o : Store) (g : Log) → selects o (g .regs .index) < length (rows b) → addresses o (g .regs .faddr) ≤ 127 → Standing b (g .regs)
+stands : {b : Board} (o : Store) (g : Log) → selects o (file.index (g .regs)) < length (rows b) → addresses o (file.faddr (g .regs)) ≤ 127 → Standing b (g .regs)
     → Standing b (does o g .regs)
 stands o g s a k =
-    let t = rest o g in
-    record { six = t .endpoints ∙ k .six; board = t .board ∙ k .board; selected = rw (t .selected) s; address = rw (t .addressed) a }
+    let t = rest o g (k .six) in
+    record { six = t .whole ∙ k .six; selected = rw (t .selected) s; address = rw (t .addressed) a; clean = clean o g (k .six) (k .clean) }
 
 -- what a proper store selects and writes as the address, and what it leaves of a side
 module _ (b : Board) where
@@ -134,7 +136,8 @@ module _ (b : Board) where
   selects-low (iso d) i p h = h
   selects-low (maxp d n) i p h = h
   selects-low intrusbe i p h = h
-  selects-low (intre d v) i p h = h
+  selects-low (intre Out v) i p h = h
+  selects-low (intre In v) i p h = h
   selects-low (packet n) i p h = h
 
   addresses-low : (o : Store) (a : ℕ) → Proper b o → a ≤ 127 → addresses o a ≤ 127
@@ -148,7 +151,8 @@ module _ (b : Board) where
   addresses-low (iso d) a p h = h
   addresses-low (maxp d n) a p h = h
   addresses-low intrusbe a p h = h
-  addresses-low (intre d v) a p h = h
+  addresses-low (intre Out v) a p h = h
+  addresses-low (intre In v) a p h = h
   addresses-low (packet n) a p h = h
 
   pub leaves-tame : (o : Store) (i e : ℕ) (d : Direction) (s : Side) → Proper b o → Tame s (leaves o i e d s)
@@ -209,27 +213,27 @@ module _ {b : Board} (n : ℕ) (o : Store) (g : Log) (m : Sends b n o g) (k : Ho
   amid : Standing b (mid .regs)
   amid = stands (packet n) g (first .selected) (first .address) first
 
-  loaded : (e : ℕ) (d : Direction) → sideAt (mid .regs) e d ≡ leaves (packet n) (g .regs .index) e d (sideAt (g .regs) e d)
+  loaded : (e : ℕ) (d : Direction) → sideAt (mid .regs) e d ≡ leaves (packet n) (file.index (g .regs)) e d (sideAt (g .regs) e d)
   loaded e d = sides (packet n) g e d (first .six) (within-six first)
 
-  stored : (e : ℕ) (d : Direction) → sideAt (does o mid .regs) e d ≡ leaves o (mid .regs .index) e d (sideAt (mid .regs) e d)
+  stored : (e : ℕ) (d : Direction) → sideAt (does o mid .regs) e d ≡ leaves o (file.index (mid .regs)) e d (sideAt (mid .regs) e d)
   stored e d = sides o mid e d (amid .six) (within-six amid)
 
   tame : (e : ℕ) (d : Direction) → Tame (sideAt (mid .regs) e d) (sideAt (does o mid .regs) e d)
   tame e d = rw (stored e d) (leaves-tame b o _ e d _ (m .proper))
 
   -- the selected side
-  at-index : (e : ℕ) → e ≡ mid .regs .index → sideAt (does o mid .regs) e In .ready ≡ true
-  at-index e p = rw p (ap (λ (s : Side). s .ready) (stored (mid .regs .index) In) ∙ m .readies)
+  at-index : (e : ℕ) → e ≡ file.index (mid .regs) → sideAt (does o mid .regs) e In .ready ≡ true
+  at-index e p = rw p (ap (λ (s : Side). s .ready) (stored (file.index (mid .regs)) In) ∙ m .readies)
 
-  ready-here : (e : ℕ) → e ≡ g .regs .index → SideOk (areaAt (rows b) e In .size) (sideAt (does o mid .regs) e In)
+  ready-here : (e : ℕ) → e ≡ file.index (g .regs) → SideOk (areaAt (rows b) e In .size) (sideAt (does o mid .regs) e In)
   ready-here e p = record {
-    fits = le-trans (tame e In .shorter) (rw (loaded e In) (rw p (packet-here n (g .regs .index) _ _ (m .fits) (k .side (g .regs .index) In .fits))));
-    none = λ q. clash (sym (at-index e (p ∙ sym (rest (packet n) g .selected))) ∙ q);
+    fits = le-trans (tame e In .shorter) (rw (loaded e In) (rw p (packet-here n (file.index (g .regs)) _ _ (m .fits) (k .side (file.index (g .regs)) In .fits))));
+    none = λ q. clash (sym (at-index e (p ∙ sym (rest (packet n) g (first .six) .selected))) ∙ q);
   }
 
   -- every other
-  elsewhere : (e : ℕ) (d : Direction) → leaves (packet n) (g .regs .index) e d (sideAt (g .regs) e d) ≡ sideAt (g .regs) e d
+  elsewhere : (e : ℕ) (d : Direction) → leaves (packet n) (file.index (g .regs)) e d (sideAt (g .regs) e d) ≡ sideAt (g .regs) e d
       → SideOk (areaAt (rows b) e d .size) (sideAt (does o mid .regs) e d)
   elsewhere e d p = stays-ok _ (tame e d) (rw (loaded e d ∙ p) (k .side e d))
 
@@ -241,9 +245,9 @@ module _ {b : Board} (n : ℕ) (o : Store) (g : Log) (m : Sends b n o g) (k : Ho
     where
       go : (e : ℕ) (d : Direction) → SideOk (areaAt (rows b) e d .size) (sideAt (does o mid .regs) e d)
       go e Out = elsewhere e Out (packet-out n _ e _)
-      go e In = by (ℕ-discrete e (g .regs .index))
+      go e In = by (ℕ-discrete e (file.index (g .regs)))
         where
-          by : Dec (e ≡ g .regs .index) → SideOk (areaAt (rows b) e In .size) (sideAt (does o mid .regs) e In)
+          by : Dec (e ≡ file.index (g .regs)) → SideOk (areaAt (rows b) e In .size) (sideAt (does o mid .regs) e In)
           by (yes p) = ready-here e p
           by (no q) = elsewhere e In (packet-other n _ e _ q)
 

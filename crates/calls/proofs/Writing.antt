@@ -1,11 +1,11 @@
 -- The account of `write`: the index, then a packet with its ready bit, and DataEnd where the data end. Assumes nothing.
 use Prim.Native.Nat.{ℕ, _≤_, _<_}
-use mathlib.Core.Path.{_≡_, refl, ap, _∙_}
+use mathlib.Core.Path.{_≡_, refl, sym, ap, subst, _∙_}
 use mathlib.Core.Bool.{Bool, true, false, not, _&&_, cond}
 use mathlib.Core.List.{List}
 use mathlib.Core.Logic.{inr}
 use borrow.Author.Tests.{eq-eqb, eqb-true, ltb-false}
-use lib.Dec.{eqb, ltb}
+use lib.Dec.{eqb, ltb, leb}
 use lib.ListN.{length}
 use Rattle.laws.proofs.Words.{raised-lt}
 use Rattle.board.specs.declared.Board.{Board}
@@ -15,7 +15,8 @@ use Rattle.board.specs.Boards.{rows, at-least-one}
 use Rattle.csr.specs.declared.Side.{Side}
 use Rattle.csr.specs.declared.Csr0lSet.the-variants as csr0l
 use Rattle.csr.specs.declared.TxcsrlSet.the-variants as txcsrl
-use Rattle.regs.specs.Registers.{sideAt, chosen}
+use Rattle.regs.specs.Registers as file
+use Rattle.regs.specs.Registers.{Whole, sideAt, chosen}
 use Rattle.csr.proofs.Modified.{tx-readied}
 use Rattle.regs.proofs.Modified.{zero-readied}
 use Rattle.stores.specs.Stores.{Log, log, writeIndex, modifyCsr0l, modifyTxcsrl}
@@ -27,12 +28,17 @@ use Rattle.control_state.specs.declared.ControlState.{ControlState}
 use Rattle.control_state.specs.declared.ControlStateEnum.{ControlStateEnum}
 use Rattle.control_state.specs.declared.ControlStateEnum.the-variants.{Idle, Setup, DataIn, DataOut, Accepted, NodataPhase}
 use Rattle.record.specs.declared.Record.{Record}
-use Rattle.record.specs.Record.{recordSound, areaOf, withControl}
-use Rattle.write_zero.specs.Write.{done, blocked, nodataPhase, accepted, ended, txSize, dataIn, sentDataIn, sentZero, Ran}
-use Rattle.write_tests.specs.Write.{tooLong, untakenIn, notWritable, ownTestsAt, tests}
-use Rattle.usb_device_write.specs.Write.{loaded, sentOther, sent, taken, writeCall}
-use Rattle.usb_device_write.specs.Replies.{Given, done as granted, blocks, beyond, long, untaken, little, unsound}
-use Rattle.usb_device_write.proofs.Answers.{exactly}
+use Rattle.record.specs.declared.Flags.{Flags}
+use Rattle.record.specs.Record.{recordSound, areaIn, endpointsOf, admissionBy}
+use Rattle.peek.specs.declared.Verdict.{Verdict}
+use Rattle.peek.specs.Peek.{short, testsBy, After, after, leaving, blocked, ended}
+use Rattle.write_zero.specs.Write.{nodataPhase, accepted, txSize, dataIn, sentDataIn, sentZero}
+use Rattle.write_tests.specs.Write as tests
+use Rattle.write_tests.specs.Write.{untakenIn, ownTests}
+use Rattle.usb_device_write.specs.Write.{WriteOutcome, outcome, loaded, sentOther, sent, taken, writeBy, writeCall}
+use Rattle.usb_device_write.specs.Replies.{unready, tooLong, notWritable, Given, done as granted, blocks, beyond, long, untaken, little, unsound}
+use Rattle.usb_device_write.proofs.Verdicts.{tests-are}
+use Rattle.usb_device_write.proofs.Answers.{call-is, exactly}
 use Rattle.laws.proofs.Tests.{clash}
 use Rattle.calls.proofs.Steps as steps
 use Rattle.calls.proofs.Steps.{Reached, none, then, one, Gentle, Readies}
@@ -40,20 +46,20 @@ use Rattle.calls.proofs.Accounts.{Low, Account, left, stores, by-test, 
 
 -- TxPktRdy is set
 tx-readies : (h : Log) → Readies (txModify txcsrl.TxPktRdy h) (h .regs)
-tx-readies h = rw (eq-eqb (h .regs .index) (h .regs .index) refl) (ap (λ (s : Side). s .ready) (tx-readied (chosen (h .regs) In)))
+tx-readies h = rw (eq-eqb (file.index (h .regs)) (file.index (h .regs)) refl) (ap (λ (s : Side). s .ready) (tx-readied (chosen (h .regs) In)))
 
-zero-readies : (h : Log) → h .regs .index ≡ 0 → Readies (zeroModify csr0l.TxPktRdy h) (h .regs)
-zero-readies h p = at (h .regs .index) p
+zero-readies : (h : Log) → file.index (h .regs) ≡ 0 → Readies (zeroModify csr0l.TxPktRdy h) (h .regs)
+zero-readies h p = at (file.index (h .regs)) p
   where
     at : (i : ℕ) → i ≡ 0 → leaves (zeroModify csr0l.TxPktRdy h) i i In (sideAt (h .regs) i In) .ready ≡ true
     at i z = rw z (ap (λ (s : Side). s .ready) (zero-readied (h .regs)))
 
-module _ (k : Record) (ep n : ℕ) (l : List ℕ) (s : recordSound k ≡ true) (i : ep < length (rows (k .regs .board))) where
+module _ (k : Record) (ep n : ℕ) (l : List ℕ) (s : recordSound k ≡ true) (i : ep < length (rows (k .regs .board))) (six : Whole (k .regs .words)) where
   abbrev b : Board
   b = k .regs .board
 
   abbrev begun : Log
-  begun = log (k .regs) l 0
+  begun = log (k .regs .words) l 0
 
   abbrev chose : Log
   chose = writeIndex ep begun
@@ -61,19 +67,23 @@ module _ (k : Record) (ep n : ℕ) (l : List ℕ) (s : recordSound k ≡ true) (
   abbrev Path : Log → Type 0
   Path h = Reached (Gentle b) begun h
 
-  abbrev Fine : Ran → Type 0
-  Fine o = Account (Gentle b) k (o .result .«record»)
+  abbrev Fine : After → Type 0
+  Fine o = Account (Gentle b) k (leaving k o)
 
   selects : Path chose
   selects = then none (one (index ep)) (i, tt)
 
-  chosen-is : does (packet n) chose .regs .index ≡ ep
-  chosen-is = rest (packet n) chose .selected ∙ rest (index ep) begun .selected
+  -- the endpoint is selected, also once the packet stands in its area
+  chosen-at : file.index (chose .regs) ≡ ep
+  chosen-at = rest (index ep) begun six .selected
 
-  module _ (fits : n ≤ areaOf k ep In .size) where
-    room : n ≤ areaAt (rows b) (chose .regs .index) In .size
-    unfolding areaOf
-    room = rw (rest (index ep) begun .selected) fits
+  chosen-is : file.index (does (packet n) chose .regs) ≡ ep
+  chosen-is = rest (packet n) chose (rest (index ep) begun six .whole ∙ six) .selected ∙ chosen-at
+
+  module _ (fits : n ≤ areaIn b ep In .size) where
+    room : n ≤ areaAt (rows b) (file.index (chose .regs)) In .size
+    unfolding areaIn
+    room = rw chosen-at fits
 
     other-path : Path (modifyTxcsrl txcsrl.TxPktRdy (loaded ep n begun))
     unfolding loaded
@@ -93,18 +103,18 @@ module _ (k : Record) (ep n : ℕ) (l : List ℕ) (s : recordSound k ≡ true) (
   unfolding loaded
   empty-path z = then selects (one (packet n)) (z, tt)
 
-  finish : (q : Record) (g : Log) → Path g → (Low b (k .irq) → Low b (q .irq)) → Fine (done n q g)
-  finish q g r f = record { list = l; last = g; path = r; is = refl; served = inr s; flags = f }
+  finish : (c : ControlState) (f : Flags) (g : Log) → Path g → (Low b (k .irq) → Low b f) → Fine (after c f g)
+  finish c f g r low = record { list = l; last = g; path = r; is = refl; board = refl; served = inr s; flags = low }
 
-  ends : (c : ControlState) (g : Log) → Path g → Fine (ended c n k g)
+  ends : (c : ControlState) (g : Log) → Path g → Fine (ended c (k .irq) g)
   unfolding ended
-  ends c g r = finish (withControl k c) _ (zero-modifies r csr0l.DataEnd) (λ f. f)
+  ends c g r = finish c (k .irq) _ (zero-modifies r csr0l.DataEnd) (λ f. f)
 
-  in-data : (g : Log) → Path g → Fine (dataIn n k g)
+  in-data : (t : ℕ) (g : Log) → Path g → Fine (dataIn n t (k .«control_state») (k .irq) g)
   unfolding dataIn
-  in-data g r =
+  in-data t g r =
       let c = decreased (k .«control_state») n in
-      by-test Fine (eqb (c .«tx_len») 0) (ends _ g r) (by-test Fine (ltb n (txSize k)) (ends _ g r) (finish (withControl k c) g r (λ f. f)))
+      by-test Fine (eqb (c .«tx_len») 0) (ends _ g r) (by-test Fine (ltb n t) (ends _ g r) (finish c (k .irq) g r (λ f. f)))
 
   empty : not (eqb n 0) ≡ false → n ≡ 0
   empty e = go (eqb n 0) refl e
@@ -114,36 +124,46 @@ module _ (k : Record) (ep n : ℕ) (l : List ℕ) (s : recordSound k ≡ true) (
       go false p q = clash q
 
   -- endpoint 0: reply 11 came before wherever a packet would stay without its ready bit
-  at-zero : (s : ControlStateEnum) → ep ≡ 0 → n ≤ areaOf k ep In .size → untakenIn s n ≡ false → Fine (sentZero s n k (loaded ep n begun))
+  at-zero : (t : ℕ) (s : ControlStateEnum) → ep ≡ 0 → n ≤ areaIn b ep In .size → untakenIn s n ≡ false
+      → Fine (sentZero s n t (k .«control_state») (k .irq) (loaded ep n begun))
   unfolding sentDataIn nodataPhase accepted
-  at-zero NodataPhase z h w =
-      finish (nodataPhase k) _ (empty-path (empty w)) (λ f. (raised-lt _ _ 0 (f .0) (at-least-one b), f .1))
-  at-zero DataIn z h w = in-data _ (zero-path h z)
-  at-zero Idle z h w = finish (accepted k) _ (empty-path (empty w)) (λ f. f)
-  at-zero Setup z h w = clash w
-  at-zero DataOut z h w = clash w
-  at-zero Accepted z h w = clash w
+  at-zero t NodataPhase z h w = finish _ _ _ (empty-path (empty w)) (λ f. (raised-lt _ _ 0 (f .0) (at-least-one b), f .1))
+  at-zero t DataIn z h w = in-data t _ (zero-path h z)
+  at-zero t Idle z h w = finish _ (k .irq) _ (empty-path (empty w)) (λ f. f)
+  at-zero t Setup z h w = clash w
+  at-zero t DataOut z h w = clash w
+  at-zero t Accepted z h w = clash w
 
-  sends : n ≤ areaOf k ep In .size → notWritable k ep n ≡ false → Fine (sent k ep n (loaded ep n begun))
-  unfolding sent sentOther notWritable
-  sends h w = go (eqb ep 0) refl w
+  sends : (t : ℕ) → n ≤ areaIn b ep In .size → notWritable k ep n ≡ false → Fine (sent ep n t (k .«control_state») (k .irq) (loaded ep n begun))
+  unfolding sent sentOther tests.notWritable
+  sends t h w = go (eqb ep 0) refl w
     where
       go : (z : Bool) → eqb ep 0 ≡ z → (z && untakenIn (k .«control_state» .state) n) ≡ false
-          → Fine (cond z (sentZero (k .«control_state» .state) n k (loaded ep n begun)) (sentOther n k (loaded ep n begun)))
-      go true p u = at-zero (k .«control_state» .state) (eqb-true ep 0 p) h u
-      go false p u = finish k _ (other-path h) (λ f. f)
+          → Fine (cond z (sentZero (k .«control_state» .state) n t (k .«control_state») (k .irq) (loaded ep n begun))
+          (sentOther (k .«control_state») (k .irq) (loaded ep n begun)))
+      go true p u = at-zero t (k .«control_state» .state) (eqb-true ep 0 p) h u
+      go false p u = finish (k .«control_state») (k .irq) _ (other-path h) (λ f. f)
 
-module _ (k : Record) (ep : ℕ) (b f l : List ℕ) where
-  not-long : tooLong k ep (length b) ≡ false → length b ≤ areaOf k ep In .size
-  unfolding tooLong
+module _ (k : Record) (ep : ℕ) (b f l : List ℕ) (six : Whole (k .regs .words)) where
+  not-long : tooLong k ep (length b) ≡ false → length b ≤ areaIn (k .regs .board) ep In .size
+  unfolding tests.tooLong
   not-long p = ltb-false _ _ p
 
-  -- by the row of the reply that is given
-  by-row : {m : ℕ} → Given k ep (length b) (length f) (length l) m → Account (Gentle (k .regs .board)) k (writeCall k ep b f l .result .«record»)
-  unfolding writeCall tests ownTestsAt taken blocked
+  -- the call by its tests, one beside the other
+  abbrev by : Verdict → WriteOutcome
+  by v = outcome k (writeBy v (k .regs .board) (k .«control_state») (k .irq) (txSize k) ep b f (log (k .regs .words) l 0))
+
+  abbrev tested : Verdict
+  tested =
+      testsBy (admissionBy (short k (length f) (length l)) (recordSound k) (leb (endpointsOf k) ep))
+      (ownTests (unready k ep) (tooLong k ep (length b)) (notWritable k ep (length b)))
+
+  by-row : {m : ℕ} → Given k ep (length b) (length f) (length l) m → Account (Gentle (k .regs .board)) k (by tested .result .«record»)
+  unfolding taken blocked
   by-row (granted a s t u) =
-      rw (a .lent, a .passes, a .there, s, t, u) (sends k ep (length b) l (a .passes) (there k ep (a .there)) (not-long t) u)
-  by-row (blocks a s) = rw (a .lent, a .passes, a .there, s) (stores l _ (a .passes) (selects k ep (length b) l (a .passes) (there k ep (a .there))) refl refl)
+      rw (a .lent, a .passes, a .there, s, t, u) (sends k ep (length b) l (a .passes) (there k ep (a .there)) six (txSize k) (not-long t) u)
+  by-row (blocks a s) =
+      rw (a .lent, a .passes, a .there, s) (stores l _ (a .passes) (selects k ep (length b) l (a .passes) (there k ep (a .there)) six) refl refl refl)
   by-row (beyond p q r) = rw (p, q, r) (left refl refl)
   by-row (long a s t) = rw (a .lent, a .passes, a .there, s, t) (left refl refl)
   by-row (untaken a s t u) = rw (a .lent, a .passes, a .there, s, t, u) (left refl refl)
@@ -151,4 +171,6 @@ module _ (k : Record) (ep : ℕ) (b f l : List ℕ) where
   by-row (unsound p q) = rw (p, q) (left refl refl)
 
   pub write : Account (Gentle (k .regs .board)) k (writeCall k ep b f l .result .«record»)
-  write = by-row (exactly k ep b f l _ .0 refl)
+  write =
+      subst (λ (o : WriteOutcome). Account (Gentle (k .regs .board)) k (o .result .«record»))
+      (sym (call-is k ep b f l ∙ ap by (tests-are k ep (length b) (length f) (length l)))) (by-row (exactly k ep b f l _ .0 refl))

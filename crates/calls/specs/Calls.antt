@@ -31,7 +31,7 @@ pub data Op : Type 0 where
   reset : List ℕ → Op
   setDeviceAddress : ℕ → List ℕ → Op
   write : ℕ → List ℕ → List ℕ → List ℕ → Op  -- endpoint, bytes, FIFO buffer, list
-  read : ℕ → List ℕ → List ℕ → List ℕ → Op  -- endpoint, FIFO buffer, list, the caller's buffer
+  read : ℕ → List ℕ → List ℕ → List ℕ → Op  -- endpoint, the caller's buffer, FIFO buffer, list
   setStalled : ℕ → Direction → Bool → List ℕ → Op
   isStalled : ℕ → Direction → List ℕ → Op
   poll : List ℕ → Op
@@ -90,7 +90,7 @@ outcome k (enable l) = called (impl.enableCall k l)
 outcome k (reset l) = called (impl-reset.resetCall k l)
 outcome k (setDeviceAddress a l) = called (impl.addressCall k a l)
 outcome k (write e b f l) = written (writeCall k e b f l)
-outcome k (read e f l b) = fetched (readCall k e f l b)
+outcome k (read e b f l) = fetched (readCall k e b f l)
 outcome k (setStalled e d s l) = called (impl-stall.setStalledCall k e d s l)
 outcome k (isStalled e d l) = told (impl-stall.isStalledCall k e d l)
 outcome k (poll l) = polled (pollCall k l)

@@ -32,7 +32,7 @@ replies (enable l) = 15 ∷ 16 ∷ 0 ∷ []
 replies (reset l) = 15 ∷ 16 ∷ 0 ∷ []
 replies (setDeviceAddress a l) = 15 ∷ 16 ∷ 14 ∷ 0 ∷ []
 replies (write e b f l) = 15 ∷ 16 ∷ 8 ∷ 6 ∷ 9 ∷ 11 ∷ 0 ∷ []
-replies (read e f l b) = 15 ∷ 16 ∷ 8 ∷ 6 ∷ 12 ∷ 13 ∷ 0 ∷ []
+replies (read e b f l) = 15 ∷ 16 ∷ 8 ∷ 6 ∷ 12 ∷ 13 ∷ 0 ∷ []
 replies (setStalled e d s l) = 15 ∷ 16 ∷ 8 ∷ 0 ∷ []
 replies (isStalled e d l) = 15 ∷ 16 ∷ 8 ∷ 0 ∷ []
 replies (poll l) = 15 ∷ 16 ∷ 0 ∷ []
@@ -70,7 +70,7 @@ lent (enable l) = listLent l
 lent (reset l) = listLent l
 lent (setDeviceAddress a l) = listLent l
 lent (write e b f l) = record { fifo = f; list = l; buf = [] }
-lent (read e f l b) = record { fifo = []; list = l; buf = b }
+lent (read e b f l) = record { fifo = []; list = l; buf = b }
 lent (setStalled e d s l) = listLent l
 lent (isStalled e d l) = listLent l
 lent (poll l) = listLent l
@@ -93,7 +93,7 @@ unchanged n k b = record { reply = n; «record» = k; stores = 0; fifo = b .fifo
 abbrev pub selected : ℕ → Record → Lent → Outcome
 selected e k b = record {
   reply = 6;
-  «record» = withRegs k (withIndex (k .regs) e);
+  «record» = withRegs k (withIndex (k .regs .words) e);
   stores = 1;
   fifo = b .fifo;
   list = 3 ∷ e ∷ e ∷ drop 3 (b .list);
@@ -103,7 +103,7 @@ selected e k b = record {
 -- write and read alone give reply 6, of the endpoint that they are asked for
 pub data Blocking : Op → ℕ → Type 0 where
   writing : (e : ℕ) (b f l : List ℕ) → Blocking (write e b f l) e
-  reading : (e : ℕ) (f l b : List ℕ) → Blocking (read e f l b) e
+  reading : (e : ℕ) (b f l : List ℕ) → Blocking (read e b f l) e
 
 pub record Answers (k : Record) (o : Op) : Type 0 where
   pub number : among (outcome k o .reply) (replies o) ≡ true

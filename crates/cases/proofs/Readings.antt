@@ -3,18 +3,20 @@
 use Rattle.laws.specs.Tests.{_also_}
 use Rattle.board.specs.declared.Board.the-variants.{Display}
 use Rattle.board.specs.Boards.{rows-display}
-use Rattle.regs.specs.Registers.{freshRegs, sideAt, withSide}
-use Rattle.regs.specs.Control.{csr0lRead, count0}
+use Rattle.laws.specs.Words.{bit}
+use Rattle.board.specs.Table as table
+use Rattle.regs.specs.Registers.{freshFile, freshRegs, index, faddr, sideWord, sideOf, sideIn, withSideIn, sideAt, withSide}
 use Rattle.csr.specs.Sound.{sideSound}
-use Rattle.regs.specs.Sound.{epSound, sidesSound, regsSound}
-use Rattle.peek.specs.Peek.{short, rxPktRdy, rxCount}
-use Rattle.record.specs.Record.{freshRecord, areaOf, needOf, sizesOf, flagsSound, recordSound, endpointsOf}
+use Rattle.regs.specs.Sound.{placeSound, soundBelow, regsSound}
+use Rattle.peek.specs.Peek.{shortIn, rxPktRdy, rxCount, ended}
+use Rattle.record.specs.Record as whole
+use Rattle.record.specs.Record.{freshRecord, areaIn, areaOf, needIn, needOf, flagsSound, recordSound, endpointsIn, endpointsOf}
 use Rattle.cases.specs.Allocations.{Hold}
-use Rattle.read_tests.specs.Read.{waiting, notReadable, notSetup, ownTestsAt, tests}
-use Rattle.read_zero.specs.Read.{ended, rxSize, dataOut, readZero}
-use Rattle.usb_device_read.specs.Read.{got, taken, readCall}
+use Rattle.read_tests.specs.Read.{notReadable, notSetup, ownTestsAt, testsIn}
+use Rattle.read_zero.specs.Read.{rxSize, dataOut, readZero}
+use Rattle.usb_device_read.specs.Read.{got, taken, readIn, readCall}
 use Rattle.cases.specs.Readings.{readings}
 
 pub p13 : Hold (readings Display)
-unfolding _also_ freshRegs sideAt withSide csr0lRead count0 sideSound epSound sidesSound regsSound short rxPktRdy rxCount freshRecord areaOf needOf sizesOf flagsSound recordSound endpointsOf waiting notReadable notSetup ownTestsAt tests ended rxSize dataOut readZero got taken readCall
+unfolding _also_ bit freshFile freshRegs index faddr sideIn sideOf sideAt sideWord withSideIn withSide sideSound placeSound soundBelow regsSound shortIn rxPktRdy rxCount freshRecord areaIn areaOf needIn needOf table.sizesOf flagsSound whole.passes recordSound endpointsIn endpointsOf notReadable notSetup ownTestsAt testsIn ended rxSize dataOut readZero got taken readIn readCall
 p13 = rw rows-display

@@ -3,66 +3,58 @@ use mathlib.Core.Path.{_≡_, refl, ap, ap₂, _∙_}
 use mathlib.Core.Bool.{Bool, true, false}
 use mathlib.Core.List.{List, [], _∷_}
 use Prim.Native.Nat.{ℕ, zero, suc, _^_}
-use lib.Dec.{ltb, leb}
+use lib.Dec.{ltb}
 use lib.ListN.{length}
 use Rattle.laws.specs.Tests.{_also_}
-use Rattle.laws.specs.Words.{bit, clear, bitsBelow, setBits}
+use Rattle.laws.specs.Words.{bit, raised, clear, bitsBelow, setBits}
 use Rattle.board.specs.declared.Board.the-variants.{Display}
 use Rattle.board.specs.Boards.{rows, display, rows-display}
-use Rattle.board.specs.Table.{areaAt}
+use Rattle.board.specs.Table as table
+use Rattle.board.specs.declared.Board.{Board}
 use Rattle.board.specs.declared.Row.{Row}
-use Rattle.board.specs.declared.Direction.the-variants.{Out, In}
-use Rattle.regs.specs.Registers.{freshRegs, sideAt, withSide}
+use Rattle.regs.specs.Registers.{freshFile, freshRegs, index, withIndex, faddr, intrusb, withIntrusb, intrOf, withIntr, sideWord, sideOf, sideIn, withSideIn, sideAt, withSide}
 use Rattle.regs.specs.Control.{csr0lRead}
 use Rattle.csr.specs.Control.{txcsrlOf, rxcsrlOf}
 use Rattle.csr.specs.Sound.{sideSound}
-use Rattle.regs.specs.Sound.{epSound, sidesSound, regsSound}
-use Rattle.stores.specs.Stores.{Log, log, noted, writeIndex}
+use Rattle.regs.specs.Sound.{placeSound, soundBelow, regsSound}
+use Rattle.stores.specs.Stores.{Log, log, writeIndex}
 use Rattle.store_list.specs.Stores.{listed}
-use Rattle.events.specs.Events.{waitingAt, busReset, busResume, intrusbCleared, intrCleared}
+use Rattle.events.specs.Events.{waitingAt, busRaised, busReset, busResume, intrusbCleared, intrCleared}
 use Rattle.overrun.specs.Common.{underRunCleared, overRunCleared, repaired, repairedBelow, checkOverrun}
 use Rattle.laws.specs.Lists.{numbers}
 use Rattle.cases.specs.Allocations.{Hold}
 use Rattle.record.specs.declared.Record.{Record}
-use Rattle.record.specs.Record.{freshRecord, areaOf, sizesOf, flagsSound, recordSound, endpointsOf, withRegs, entryBy}
+use Rattle.record.specs.Record.{freshRecord, flagsSound, passes, recordSound, endpointsIn, endpointsOf, withRegs, admissionBy}
 use Rattle.usb_device_interrupt.specs.Interrupt.{snapshotOf, cleared, busTaken, raisedIf, endpointTaken, endpointsTaken, taken, interrupted, interruptBy, interruptCall}
 use Rattle.poll_zero.specs.Round.{endpointZero, acceptedBy, acceptStep}
 use Rattle.poll_walk.specs.Round.{readyAt, drained, visit, walked}
 use Rattle.usb_device_poll.specs.Round.{told}
-use Rattle.usb_device_poll.specs.Poll.{PollOutcome, ended, walkedOn, acceptedOn, roundOut, pollLogged, pollServed, pollWhen, pollCall}
+use Rattle.usb_device_poll.specs.Poll.{PollOutcome, outcomeOf, ended, walkedOn, acceptedOn, roundOut, pollLogged, pollServed, pollWhen, pollAdmitted, pollCall}
 use Rattle.cases.specs.Rounds.{says, run, space, fresh, flagged, fiveWaits, bothTaken, rounds}
 
 -- reply 16's test with the table as an argument, so that it computes
-abbrev sizesIn : List Row → List ℕ
-sizesIn t =
-    areaAt t 0 In .size ∷ areaAt t 0 Out .size
-    ∷ areaAt t 1 In .size ∷ areaAt t 1 Out .size
-    ∷ areaAt t 2 In .size ∷ areaAt t 2 Out .size
-    ∷ areaAt t 3 In .size ∷ areaAt t 3 Out .size
-    ∷ areaAt t 4 In .size ∷ areaAt t 4 Out .size
-    ∷ areaAt t 5 In .size ∷ areaAt t 5 Out .size
-    ∷ []
-
 abbrev passesIn : List Row → Record → Bool
 passesIn t k =
-    (ltb (k .regs .index) (length t) also leb (k .regs .faddr) 127 also sidesSound (sizesIn t) (k .regs .eps))
+    regsSound (table.sizesOf t) (length t) (k .regs .words)
     also (ltb (k .irq .«ep_tx») (2 ^ length t) also ltb (k .irq .«ep_rx») (2 ^ length t))
 
-passes : (k : Record) → k .regs .board ≡ Display → passesIn display k ≡ true → recordSound k ≡ true
-unfolding recordSound regsSound flagsSound sizesOf areaOf
-passes k b p = ap (λ (t : List Row). passesIn t k) (ap rows b ∙ rows-display) ∙ p
+sound : (k : Record) → k .regs .board ≡ Display → passesIn display k ≡ true → recordSound k ≡ true
+unfolding recordSound passes flagsSound
+sound k b p = ap (λ (t : List Row). passesIn t k) (ap rows b ∙ rows-display) ∙ p
 
 -- a poll that is served, on a board of six endpoints
 abbrev short : Record → List ℕ → PollOutcome
-short k l = pollLogged k (repairedBelow 6 (log (k .regs) l 0))
+short k l = outcomeOf k (pollLogged (repairedBelow 6 (log (k .regs .words) l 0)) (k .«control_state») (k .irq))
 
-six : (g : Log) → g .regs .board ≡ Display → checkOverrun g ≡ repairedBelow 6 g
-unfolding checkOverrun
-six g p = rw (p, rows-display)
+six : (b : Board) (g : Log) → b ≡ Display → checkOverrun (endpointsIn b) g ≡ repairedBelow 6 g
+unfolding checkOverrun endpointsIn
+six b g p = rw (p, rows-display)
 
 poll-short : (k : Record) (l : List ℕ) → k .regs .board ≡ Display → passesIn display k ≡ true → ltb (length l) 384 ≡ false → pollCall k l ≡ short k l
-unfolding pollCall pollServed
-poll-short k l b p q = (λ i. pollWhen (entryBy (q i) (passes k b p i) false) k l) ∙ ap (pollLogged k) (six (log (k .regs) l 0) b)
+unfolding pollCall pollAdmitted pollServed recordSound
+poll-short k l b p q =
+    (λ i. outcomeOf k (pollWhen (admissionBy (q i) (sound k b p i) false) (k .regs .board) (log (k .regs .words) l 0) (k .«control_state») (k .irq)))
+    ∙ ap (λ (g : Log). outcomeOf k (pollLogged g (k .«control_state») (k .irq))) (six (k .regs .board) (log (k .regs .words) l 0) b)
 
 -- every poll of a run is served, and what they then say
 abbrev Served : ℕ → Record → List ℕ → Type 0
@@ -82,49 +74,49 @@ runs (suc n) k l s =
 -- an interrupt that is served, likewise
 abbrev shortTaken : Record → Record
 shortTaken k = record {
-  regs = cleared (k .regs);
+  regs = record { board = k .regs .board; words = cleared (k .regs .words) };
   endpoints = k .endpoints;
   «control_state» = k .«control_state»;
-  irq = taken 6 (snapshotOf (k .regs)) (k .irq);
+  irq = taken 6 (snapshotOf (k .regs .words)) (k .irq);
 }
 
 taken-short : (k : Record) → k .regs .board ≡ Display → passesIn display k ≡ true → interruptCall k .«record» ≡ shortTaken k
-unfolding interruptCall interrupted endpointsOf
-taken-short k b p = (λ i. interruptBy (passes k b p i) k .«record») ∙ rw (b, rows-display)
+unfolding interruptCall interrupted endpointsIn endpointsOf
+taken-short k b p = (λ i. interruptBy (sound k b p i) k .«record») ∙ rw (b, rows-display)
 
 abbrev bothRaised : Record
-bothRaised = withRegs fresh (busResume (busReset (fresh .regs)))
+bothRaised = withRegs fresh (busResume (busReset (fresh .regs .words)))
 
 raised-display : bothRaised .regs .board ≡ Display
-unfolding freshRecord freshRegs busReset busResume
+unfolding freshRecord freshFile freshRegs index withIndex faddr sideOf sideIn bit
 raised-display = refl
 
 sound-raised : passesIn display bothRaised ≡ true
-unfolding freshRecord freshRegs busReset busResume sidesSound epSound sideSound _also_
+unfolding freshRecord freshFile freshRegs index withIndex faddr sideOf sideIn busReset busResume busRaised raised intrusb withIntrusb table.sizesOf regsSound soundBelow placeSound sideSound _also_ bit
 sound-raised = refl
 
 served-14 : Served 2 (flagged fresh) space
-unfolding freshRecord freshRegs sidesSound epSound sideSound _also_ pollLogged roundOut acceptedOn walkedOn ended told walked visit drained readyAt acceptStep acceptedBy endpointZero repairedBelow numbers repaired overRunCleared underRunCleared writeIndex noted listed csr0lRead txcsrlOf rxcsrlOf sideAt setBits bitsBelow clear bit
+unfolding freshRecord freshFile freshRegs index withIndex faddr sideOf sideIn table.sizesOf regsSound soundBelow placeSound sideSound _also_ pollLogged roundOut acceptedOn walkedOn ended told walked visit drained readyAt acceptStep acceptedBy endpointZero repairedBelow numbers repaired overRunCleared underRunCleared writeIndex listed csr0lRead txcsrlOf rxcsrlOf sideAt setBits bitsBelow clear bit
 served-14 = (refl, refl, refl, (refl, refl, refl, tt))
 
 said-14 : shortRun 2 (flagged fresh) space ≡ ((0 ∷ 1 ∷ 2 ∷ 0 ∷ 0 ∷ []) ∷ (0 ∷ 0 ∷ []) ∷ [])
-unfolding freshRecord freshRegs pollLogged roundOut acceptedOn walkedOn ended told walked visit drained readyAt acceptStep acceptedBy endpointZero repairedBelow numbers repaired overRunCleared underRunCleared writeIndex noted listed csr0lRead txcsrlOf rxcsrlOf sideAt setBits bitsBelow clear bit
+unfolding freshRecord freshFile freshRegs index withIndex faddr sideOf sideIn pollLogged roundOut acceptedOn walkedOn ended told walked visit drained readyAt acceptStep acceptedBy endpointZero repairedBelow numbers repaired overRunCleared underRunCleared writeIndex listed csr0lRead txcsrlOf rxcsrlOf sideAt setBits bitsBelow clear bit
 said-14 = refl
 
 served-15 : Served 1 (flagged fiveWaits) space
-unfolding freshRecord freshRegs waitingAt withSide sidesSound epSound sideSound _also_ pollLogged roundOut acceptedOn walkedOn ended told walked visit drained readyAt acceptStep acceptedBy endpointZero repairedBelow numbers repaired overRunCleared underRunCleared writeIndex noted listed csr0lRead txcsrlOf rxcsrlOf sideAt setBits bitsBelow clear bit
+unfolding freshRecord freshFile freshRegs index withIndex faddr sideOf sideIn waitingAt sideWord withSideIn withSide table.sizesOf regsSound soundBelow placeSound sideSound _also_ pollLogged roundOut acceptedOn walkedOn ended told walked visit drained readyAt acceptStep acceptedBy endpointZero repairedBelow numbers repaired overRunCleared underRunCleared writeIndex listed csr0lRead txcsrlOf rxcsrlOf sideAt setBits bitsBelow clear bit
 served-15 = (refl, refl, refl, tt)
 
 said-15 : shortRun 1 (flagged fiveWaits) space ≡ ((0 ∷ 1 ∷ 32 ∷ 0 ∷ 0 ∷ []) ∷ [])
-unfolding freshRecord freshRegs waitingAt withSide pollLogged roundOut acceptedOn walkedOn ended told walked visit drained readyAt acceptStep acceptedBy endpointZero repairedBelow numbers repaired overRunCleared underRunCleared writeIndex noted listed csr0lRead txcsrlOf rxcsrlOf sideAt setBits bitsBelow clear bit
+unfolding freshRecord freshFile freshRegs index withIndex faddr sideOf sideIn waitingAt sideWord withSideIn withSide pollLogged roundOut acceptedOn walkedOn ended told walked visit drained readyAt acceptStep acceptedBy endpointZero repairedBelow numbers repaired overRunCleared underRunCleared writeIndex listed csr0lRead txcsrlOf rxcsrlOf sideAt setBits bitsBelow clear bit
 said-15 = refl
 
 served-16 : Served 3 (shortTaken bothRaised) space
-unfolding freshRecord freshRegs busReset busResume cleared intrusbCleared intrCleared snapshotOf taken endpointsTaken endpointTaken raisedIf busTaken sidesSound epSound sideSound _also_ pollLogged roundOut acceptedOn walkedOn ended told walked visit drained readyAt acceptStep acceptedBy endpointZero repairedBelow numbers repaired overRunCleared underRunCleared writeIndex noted listed csr0lRead txcsrlOf rxcsrlOf sideAt setBits bitsBelow clear bit
+unfolding freshRecord freshFile freshRegs index withIndex faddr sideOf sideIn busReset busResume busRaised raised intrusb withIntrusb cleared intrusbCleared intrCleared intrOf withIntr snapshotOf taken endpointsTaken endpointTaken raisedIf busTaken table.sizesOf regsSound soundBelow placeSound sideSound _also_ pollLogged roundOut acceptedOn walkedOn ended told walked visit drained readyAt acceptStep acceptedBy endpointZero repairedBelow numbers repaired overRunCleared underRunCleared writeIndex listed csr0lRead txcsrlOf rxcsrlOf sideAt setBits bitsBelow clear bit
 served-16 = (refl, refl, refl, (refl, refl, refl, (refl, refl, refl, tt)))
 
 said-16 : shortRun 3 (shortTaken bothRaised) space ≡ ((0 ∷ 2 ∷ []) ∷ (0 ∷ 3 ∷ []) ∷ (0 ∷ 0 ∷ []) ∷ [])
-unfolding freshRecord freshRegs busReset busResume cleared intrusbCleared intrCleared snapshotOf taken endpointsTaken endpointTaken raisedIf busTaken pollLogged roundOut acceptedOn walkedOn ended told walked visit drained readyAt acceptStep acceptedBy endpointZero repairedBelow numbers repaired overRunCleared underRunCleared writeIndex noted listed csr0lRead txcsrlOf rxcsrlOf sideAt setBits bitsBelow clear bit
+unfolding freshRecord freshFile freshRegs index withIndex faddr sideOf sideIn busReset busResume busRaised raised intrusb withIntrusb cleared intrusbCleared intrCleared intrOf withIntr snapshotOf taken endpointsTaken endpointTaken raisedIf busTaken pollLogged roundOut acceptedOn walkedOn ended told walked visit drained readyAt acceptStep acceptedBy endpointZero repairedBelow numbers repaired overRunCleared underRunCleared writeIndex listed csr0lRead txcsrlOf rxcsrlOf sideAt setBits bitsBelow clear bit
 said-16 = refl
 
 p14 : run 2 (flagged fresh) space ≡ ((0 ∷ 1 ∷ 2 ∷ 0 ∷ 0 ∷ []) ∷ (0 ∷ 0 ∷ []) ∷ [])

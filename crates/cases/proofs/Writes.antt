@@ -3,18 +3,20 @@
 use Rattle.laws.specs.Tests.{_also_}
 use Rattle.board.specs.declared.Board.the-variants.{Display}
 use Rattle.board.specs.Boards.{rows-display}
-use Rattle.regs.specs.Registers.{freshRegs, sideAt}
-use Rattle.regs.specs.Control.{csr0lRead}
+use Rattle.laws.specs.Words.{bit}
+use Rattle.board.specs.Table as table
+use Rattle.regs.specs.Registers.{freshFile, freshRegs, index, faddr, sideOf, sideIn, sideAt}
 use Rattle.csr.specs.Sound.{sideSound}
-use Rattle.regs.specs.Sound.{epSound, sidesSound, regsSound}
-use Rattle.peek.specs.Peek.{short, txPktRdy}
-use Rattle.record.specs.Record.{freshRecord, areaOf, needOf, sizesOf, flagsSound, recordSound, endpointsOf}
+use Rattle.regs.specs.Sound.{placeSound, soundBelow, regsSound}
+use Rattle.peek.specs.Peek.{shortIn, txPktRdy, ended}
+use Rattle.record.specs.Record as whole
+use Rattle.record.specs.Record.{freshRecord, areaIn, areaOf, needIn, needOf, flagsSound, recordSound, endpointsIn, endpointsOf}
 use Rattle.cases.specs.Allocations.{Hold}
-use Rattle.write_tests.specs.Write.{tooLong, notWritable, ownTestsAt, tests}
-use Rattle.write_zero.specs.Write.{txSize, ended, dataIn, sentDataIn}
-use Rattle.usb_device_write.specs.Write.{sent, taken, writeCall}
+use Rattle.write_tests.specs.Write.{tooLong, notWritable, ownTestsAt, testsIn}
+use Rattle.write_zero.specs.Write.{txSizeIn, txSize, dataIn, sentDataIn}
+use Rattle.usb_device_write.specs.Write.{sent, taken, writeIn, writeCall}
 use Rattle.cases.specs.Writes.{writes}
 
 pub p11-and-p12 : Hold (writes Display)
-unfolding _also_ freshRegs sideAt csr0lRead sideSound epSound sidesSound regsSound txPktRdy freshRecord areaOf needOf sizesOf flagsSound recordSound endpointsOf short tooLong notWritable ownTestsAt tests txSize ended dataIn sentDataIn sent taken writeCall
+unfolding _also_ bit freshFile freshRegs index faddr sideIn sideOf sideAt sideSound placeSound soundBelow regsSound txPktRdy freshRecord areaIn areaOf needIn needOf table.sizesOf flagsSound whole.passes recordSound endpointsIn endpointsOf shortIn tooLong notWritable ownTestsAt testsIn txSizeIn txSize ended dataIn sentDataIn sent taken writeIn writeCall
 p11-and-p12 = rw rows-display

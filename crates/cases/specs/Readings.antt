@@ -29,7 +29,7 @@ waits n = record { ready = true; missed = false; stall = false; stalled = false;
 abbrev pub receiving : Record → ℕ → ℕ → Record
 receiving k size n =
     withRegs (withControl (withEndpoints k (set (k .endpoints) 0 (marked fresh Control Out size))) (record { state = DataOut; «tx_len» = 0 }))
-    (withSide (k .regs) 0 Out (waits n))
+    (withSide (k .regs .words) 0 Out (waits n))
 
 -- what a read gives, without the bytes: its reply, its count, and then the control state's number
 abbrev pub counted : Got → List ℕ
@@ -42,7 +42,7 @@ shown o = gotNumber (o .result .answer) ∷ counted (o .result .answer) ++ (stat
 -- a read of it at endpoint 0, as much memory lent as is asked for: it is done, and leaves the state
 abbrev pub reading : Board → ℕ → ℕ → ControlStateEnum → Case
 reading b size n s = record {
-  gives = shown (readCall (receiving (freshRecord b) size n) 0 (replicate (needOf (freshRecord b)) 7) (replicate 384 0) (replicate 64 0)) ∷ [];
+  gives = shown (readCall (receiving (freshRecord b) size n) 0 (replicate 64 0) (replicate (needOf (freshRecord b)) 7) (replicate 384 0)) ∷ [];
   says = (0 ∷ n ∷ stateNumber s ∷ []) ∷ [];
 }
 

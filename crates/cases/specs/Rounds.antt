@@ -36,11 +36,11 @@ abbrev pub flagged : Record → Record
 flagged k = withIrq k (withRx (k .irq) 34)
 
 abbrev pub fiveWaits : Record
-fiveWaits = withRegs fresh (waitingAt (fresh .regs) 5 1)
+fiveWaits = withRegs fresh (waitingAt (fresh .regs .words) 5 1)
 
 -- "reset and resume taken": by an interrupt after both
 abbrev pub bothTaken : Record
-bothTaken = interruptCall (withRegs fresh (busResume (busReset (fresh .regs)))) .«record»
+bothTaken = interruptCall (withRegs fresh (busResume (busReset (fresh .regs .words)))) .«record»
 
 abbrev pub rounds : List Case
 rounds =

@@ -6,7 +6,7 @@ use mathlib.Core.Bool.{Bool, false, not, cond}
 use lib.Dec.{eqb}
 use Rattle.board.specs.declared.Direction.{Direction}
 use Rattle.board.specs.declared.Direction.the-variants.{Out, In}
-use Rattle.regs.specs.declared.Regs.{Regs}
+use Rattle.regs.specs.Registers.{File}
 use Rattle.csr.specs.Control.{csr0lBits, txcsrlBits, rxcsrlBits}
 use Rattle.regs.specs.Control.{csr0lRead, txcsrlRead, rxcsrlRead}
 use Rattle.stores.specs.Stores.{Log, writeIndex, writeCsr0l, writeTxcsrl, writeRxcsrl, writeIntrusbe, writeIntre}
@@ -37,7 +37,7 @@ unfoldable pub epRxStall : ℕ → Bool → Log → Log
 epRxStall e stalled g = selected e (stallCsr0l stalled stalled) (writeCsrl Out stalled (not stalled)) g
 
 -- what `ep_tx_is_stalled` and `ep_rx_is_stalled` answer; all that they store is the index
-unfoldable pub sendStall : Direction → Regs → Bool
+unfoldable pub sendStall : Direction → File → Bool
 sendStall Out r = rxcsrlRead r .«send_stall»
 sendStall In r = txcsrlRead r .«send_stall»
 

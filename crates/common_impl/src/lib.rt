@@ -1,150 +1,144 @@
 // What the source keeps in its common_impl.rs, first part: the bus and stalling.
-// Each function takes the registers and how many stores stand in the lent list, and gives both back.
+// Each function is lent the register file, takes how many stores stand in the lent list, and gives back how many stand there now.
 use board::Direction;
-use regs::Regs;
-use stores::Logged;
 ghost use mathlib.Core.Path.{_≡_};
 ghost use mathlib.Core.Bool.{not};
 ghost use Prim.Native.Nat.{_+_, _*_, _≤_};
 ghost use lib.ListN.{length};
 ghost use Rattle.board.specs.declared.Direction.the-variants.{Out, In};
-ghost use Rattle.stores.specs.Stores.{log, logOf, writeIndex};
+ghost use Rattle.stores.specs.Stores.{log, writeIndex};
 ghost use Rattle.common_impl.specs.Common.{busInit, selected, stallCsr0l, writeCsrl, epTxStall, epRxStall, sendStall, isStalled};
 
-pub fn bus_init(r: Regs, list: &mut [u16], n: usize) -> Logged
+pub fn bus_init(w: &mut [u16; 46], list: &mut [u16], n: usize) -> usize
     requires { ⌜ n * 3 + 9 ≤ length (now list) ⌝ }
-    ensures { λ o. ⌜ (logOf o (now (list .exit)) ≡ busInit (log r (now (list .entry)) n)) × (o .n ≡ n + 3) ⌝ }
+    ensures { λ m. ⌜ (log (now (w .exit)) (now (list .exit)) m ≡ busInit (log (now (w .entry)) (now (list .entry)) n)) × (m ≡ n + 3) ⌝ }
 {
-    let a = stores::write_intrusbe(r, list, n);
-    let b = stores::write_intre(a.regs, list, a.n, Direction::Out, 0xFE);
-    stores::write_intre(b.regs, list, b.n, Direction::In, 0xFF)
+    let a = stores::write_intrusbe(w, list, n);
+    let b = stores::write_intre(w, list, a, Direction::Out, 0xFE);
+    stores::write_intre(w, list, b, Direction::In, 0xFF)
 }
 
 // The source's `write` of CSR0L: from zeros, with the two bits that its closures may set.
-fn stall_csr0l(r: Regs, list: &mut [u16], n: usize, stall: bool, serviced: bool) -> Logged
+fn stall_csr0l(w: &mut [u16; 46], list: &mut [u16], n: usize, stall: bool, serviced: bool) -> usize
     requires { ⌜ n * 3 + 3 ≤ length (now list) ⌝ }
-    ensures { λ o. ⌜ (logOf o (now (list .exit)) ≡ stallCsr0l stall serviced (log r (now (list .entry)) n)) × (o .n ≡ n + 1) ⌝ }
+    ensures { λ m. ⌜ (log (now (w .exit)) (now (list .exit)) m ≡ stallCsr0l stall serviced (log (now (w .entry)) (now (list .entry)) n)) × (m ≡ n + 1) ⌝ }
 {
-    let mut w = csr::zero_csr0l();
-    w.send_stall = stall;
-    w.serviced_rx_pkt_rdy = serviced;
-    stores::write_csr0l(r, list, n, w)
+    let mut v = csr::zero_csr0l();
+    v.send_stall = stall;
+    v.serviced_rx_pkt_rdy = serviced;
+    stores::write_csr0l(w, list, n, v)
 }
 
 // The same of RXCSRL and TXCSRL.
 pub fn write_csrl(
-    r: Regs,
+    w: &mut [u16; 46],
     list: &mut [u16],
     n: usize,
     d: Direction,
     stall: bool,
     toggle: bool,
-) -> Logged
+) -> usize
     requires { ⌜ n * 3 + 3 ≤ length (now list) ⌝ }
-    ensures { λ o. ⌜ (logOf o (now (list .exit)) ≡ writeCsrl d stall toggle (log r (now (list .entry)) n)) × (o .n ≡ n + 1) ⌝ }
+    ensures { λ m. ⌜ (log (now (w .exit)) (now (list .exit)) m ≡ writeCsrl d stall toggle (log (now (w .entry)) (now (list .entry)) n)) × (m ≡ n + 1) ⌝ }
 {
     match d {
         Direction::Out => {
-            let mut w = csr::zero_rxcsrl();
-            w.send_stall = stall;
-            w.clr_data_tog = toggle;
-            stores::write_rxcsrl(r, list, n, w)
+            let mut v = csr::zero_rxcsrl();
+            v.send_stall = stall;
+            v.clr_data_tog = toggle;
+            stores::write_rxcsrl(w, list, n, v)
         }
         Direction::In => {
-            let mut w = csr::zero_txcsrl();
-            w.send_stall = stall;
-            w.clr_data_tog = toggle;
-            stores::write_txcsrl(r, list, n, w)
+            let mut v = csr::zero_txcsrl();
+            v.send_stall = stall;
+            v.clr_data_tog = toggle;
+            stores::write_txcsrl(w, list, n, v)
         }
     }
 }
 
 fn stall(
-    r: Regs,
+    w: &mut [u16; 46],
     list: &mut [u16],
     n: usize,
     d: Direction,
     index: u8,
     stalled: bool,
     serviced: bool,
-) -> Logged
+) -> usize
     requires { ⌜ n * 3 + 6 ≤ length (now list) ⌝ }
-    ensures { λ o. ⌜ (logOf o (now (list .exit)) ≡ selected index (stallCsr0l stalled serviced) (writeCsrl d stalled (not stalled)) (log r (now (list .entry)) n)) × (o .n ≡ n + 2) ⌝ }
+    ensures { λ m. ⌜ (log (now (w .exit)) (now (list .exit)) m ≡ selected index (stallCsr0l stalled serviced) (writeCsrl d stalled (not stalled)) (log (now (w .entry)) (now (list .entry)) n)) × (m ≡ n + 2) ⌝ }
 {
-    let a = stores::write_index(r, list, n, index);
+    let a = stores::write_index(w, list, n, index);
     if index == 0 {
-        return stall_csr0l(a.regs, list, a.n, stalled, serviced);
+        return stall_csr0l(w, list, a, stalled, serviced);
     }
-    write_csrl(a.regs, list, a.n, d, stalled, !stalled)
+    write_csrl(w, list, a, d, stalled, !stalled)
 }
 
-pub fn ep_tx_stall(r: Regs, list: &mut [u16], n: usize, index: u8, stalled: bool) -> Logged
+pub fn ep_tx_stall(w: &mut [u16; 46], list: &mut [u16], n: usize, index: u8, stalled: bool) -> usize
     requires { ⌜ n * 3 + 6 ≤ length (now list) ⌝ }
-    ensures { λ o. ⌜ (logOf o (now (list .exit)) ≡ epTxStall index stalled (log r (now (list .entry)) n)) × (o .n ≡ n + 2) ⌝ }
+    ensures { λ m. ⌜ (log (now (w .exit)) (now (list .exit)) m ≡ epTxStall index stalled (log (now (w .entry)) (now (list .entry)) n)) × (m ≡ n + 2) ⌝ }
 {
-    stall(r, list, n, Direction::In, index, stalled, false)
+    stall(w, list, n, Direction::In, index, stalled, false)
 }
 
-pub fn ep_rx_stall(r: Regs, list: &mut [u16], n: usize, index: u8, stalled: bool) -> Logged
+pub fn ep_rx_stall(w: &mut [u16; 46], list: &mut [u16], n: usize, index: u8, stalled: bool) -> usize
     requires { ⌜ n * 3 + 6 ≤ length (now list) ⌝ }
-    ensures { λ o. ⌜ (logOf o (now (list .exit)) ≡ epRxStall index stalled (log r (now (list .entry)) n)) × (o .n ≡ n + 2) ⌝ }
+    ensures { λ m. ⌜ (log (now (w .exit)) (now (list .exit)) m ≡ epRxStall index stalled (log (now (w .entry)) (now (list .entry)) n)) × (m ≡ n + 2) ⌝ }
 {
-    stall(r, list, n, Direction::Out, index, stalled, stalled)
+    stall(w, list, n, Direction::Out, index, stalled, stalled)
 }
 
-// A Logged, and what was read.
+// How many stores stand in the list, and what was read.
 pub struct Stalled {
-    pub regs: Regs,
     pub n: usize,
     pub stalled: bool,
 }
 
-fn send_stall(r: Regs, d: Direction) -> bool
-    ensures { λ b. ⌜ b ≡ sendStall d r ⌝ }
+fn send_stall(w: &[u16; 46], d: Direction) -> bool
+    ensures { λ b. ⌜ b ≡ sendStall d (now (w .entry)) ⌝ }
 {
     match d {
         Direction::Out => {
-            let w = regs::read_rxcsrl(r);
-            w.send_stall
+            let v = regs::read_rxcsrl(w);
+            v.send_stall
         }
         Direction::In => {
-            let w = regs::read_txcsrl(r);
-            w.send_stall
+            let v = regs::read_txcsrl(w);
+            v.send_stall
         }
     }
 }
 
-fn is_stalled(r: Regs, list: &mut [u16], n: usize, d: Direction, index: u8) -> Stalled
+fn is_stalled(w: &mut [u16; 46], list: &mut [u16], n: usize, d: Direction, index: u8) -> Stalled
     requires { ⌜ n * 3 + 3 ≤ length (now list) ⌝ }
-    ensures { λ o. ⌜ (log (o .regs) (now (list .exit)) (o .n) ≡ writeIndex index (log r (now (list .entry)) n)) × (o .stalled ≡ isStalled d index (log r (now (list .entry)) n)) × (o .n ≡ n + 1) ⌝ }
+    ensures { λ o. ⌜ (log (now (w .exit)) (now (list .exit)) (o .n) ≡ writeIndex index (log (now (w .entry)) (now (list .entry)) n)) × (o .stalled ≡ isStalled d index (log (now (w .entry)) (now (list .entry)) n)) × (o .n ≡ n + 1) ⌝ }
 {
-    let a = stores::write_index(r, list, n, index);
-    let s = a.regs;
+    let a = stores::write_index(w, list, n, index);
     if index == 0 {
-        let w = regs::read_csr0l(s);
+        let v = regs::read_csr0l(w);
         return Stalled {
-            regs: s,
-            n: a.n,
-            stalled: w.send_stall,
+            n: a,
+            stalled: v.send_stall,
         };
     }
     Stalled {
-        regs: s,
-        n: a.n,
-        stalled: send_stall(s, d),
+        n: a,
+        stalled: send_stall(w, d),
     }
 }
 
-pub fn ep_rx_is_stalled(r: Regs, list: &mut [u16], n: usize, index: u8) -> Stalled
+pub fn ep_rx_is_stalled(w: &mut [u16; 46], list: &mut [u16], n: usize, index: u8) -> Stalled
     requires { ⌜ n * 3 + 3 ≤ length (now list) ⌝ }
-    ensures { λ o. ⌜ (log (o .regs) (now (list .exit)) (o .n) ≡ writeIndex index (log r (now (list .entry)) n)) × (o .stalled ≡ isStalled Out index (log r (now (list .entry)) n)) × (o .n ≡ n + 1) ⌝ }
+    ensures { λ o. ⌜ (log (now (w .exit)) (now (list .exit)) (o .n) ≡ writeIndex index (log (now (w .entry)) (now (list .entry)) n)) × (o .stalled ≡ isStalled Out index (log (now (w .entry)) (now (list .entry)) n)) × (o .n ≡ n + 1) ⌝ }
 {
-    is_stalled(r, list, n, Direction::Out, index)
+    is_stalled(w, list, n, Direction::Out, index)
 }
 
-pub fn ep_tx_is_stalled(r: Regs, list: &mut [u16], n: usize, index: u8) -> Stalled
+pub fn ep_tx_is_stalled(w: &mut [u16; 46], list: &mut [u16], n: usize, index: u8) -> Stalled
     requires { ⌜ n * 3 + 3 ≤ length (now list) ⌝ }
-    ensures { λ o. ⌜ (log (o .regs) (now (list .exit)) (o .n) ≡ writeIndex index (log r (now (list .entry)) n)) × (o .stalled ≡ isStalled In index (log r (now (list .entry)) n)) × (o .n ≡ n + 1) ⌝ }
+    ensures { λ o. ⌜ (log (now (w .exit)) (now (list .exit)) (o .n) ≡ writeIndex index (log (now (w .entry)) (now (list .entry)) n)) × (o .stalled ≡ isStalled In index (log (now (w .entry)) (now (list .entry)) n)) × (o .n ≡ n + 1) ⌝ }
 {
-    is_stalled(r, list, n, Direction::In, index)
+    is_stalled(w, list, n, Direction::In, index)
 }

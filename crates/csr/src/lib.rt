@@ -4,7 +4,7 @@ ghost use mathlib.Core.Path.{_≡_};
 ghost use mathlib.Core.Bool.{cond};
 ghost use Rattle.csr.specs.Registers.{noSide};
 ghost use Prim.Native.Nat.{_≤_, _<_};
-ghost use Rattle.csr.specs.Control.{unless, csr0lNumber, txcsrlNumber, rxcsrlNumber, zeroCsr0l, zeroTxcsrl, zeroRxcsrl, txStored, rxStored, zeroTxStored, dropped, csr0lSet, txcsrlSet, rxcsrlSet};
+ghost use Rattle.csr.specs.Control.{unless, csr0lNumber, txcsrlNumber, rxcsrlNumber, txcsrlOf, rxcsrlOf, zeroCsr0l, zeroTxcsrl, zeroRxcsrl, txStored, rxStored, zeroTxStored, dropped, csr0lSet, txcsrlSet, rxcsrlSet};
 ghost use Rattle.csr.specs.Sound.{sideSound};
 
 // One direction of an endpoint. In Rust's words In is TX and Out is RX.
@@ -142,6 +142,36 @@ pub fn zero_rxcsrl() -> Rxcsrl
     }
 }
 
+// What TXCSRL and RXCSRL read of a side.
+pub fn txcsrl_of(s: Side) -> Txcsrl
+    ensures { λ w. ⌜ w ≡ txcsrlOf s ⌝ }
+{
+    Txcsrl {
+        tx_pkt_rdy: s.ready,
+        fifo_not_empty: s.ready,
+        under_run: s.missed,
+        flush_fifo: false,
+        send_stall: s.stall,
+        sent_stall: s.stalled,
+        clr_data_tog: false,
+    }
+}
+
+pub fn rxcsrl_of(s: Side) -> Rxcsrl
+    ensures { λ w. ⌜ w ≡ rxcsrlOf s ⌝ }
+{
+    Rxcsrl {
+        rx_pkt_rdy: s.ready,
+        fifo_full: false,
+        over_run: s.missed,
+        data_error: false,
+        flush_fifo: false,
+        send_stall: s.stall,
+        sent_stall: s.stalled,
+        clr_data_tog: false,
+    }
+}
+
 // A length, dropped or not.
 fn kept(drop: bool, n: u16) -> u16
     ensures { λ r. ⌜ r ≡ unless drop n ⌝ }
@@ -194,7 +224,8 @@ pub fn drop_packet(drop: bool, s: Side) -> Side
     o
 }
 
-fn weight(b: bool, n: u16) -> u16
+// A bit's value in its place.
+pub fn weight(b: bool, n: u16) -> u16
     ensures { λ r. ⌜ (r ≡ cond b n 0) × (r ≤ n) ⌝ }
 {
     if b { n } else { 0 }

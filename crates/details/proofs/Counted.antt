@@ -4,22 +4,22 @@ use native.Mathlib.Omega.{arith}
 use mathlib.Core.Path.{_≡_, refl, _∙_}
 use mathlib.Core.List.{List, _++_}
 use lib.ListN.{length, getD, length-append}
-use Rattle.regs.specs.declared.Regs.{Regs}
+use Rattle.regs.specs.Registers.{File}
 use Rattle.endpoints.specs.declared.EndpointData.{EndpointData}
 use Rattle.endpoints.specs.Endpoints.{blank}
 use Rattle.record.specs.declared.Record.{Record}
 use Rattle.details.specs.Numbers.{ofChip, registersAt, shownAt, lengthsAt, ofData, ofEndpoint, ofEndpoints, ofFlags, recordNumbers}
 
-six : (r : Regs) (e : ℕ) → length (shownAt r e) ≡ 6
+six : (r : File) (e : ℕ) → length (shownAt r e) ≡ 6
 unfolding shownAt registersAt
 six r zero = refl
 six r (suc e) = refl
 
-thirteen : (r : Regs) (d : EndpointData) (e : ℕ) → length (ofEndpoint r d e) ≡ 13
+thirteen : (r : File) (d : EndpointData) (e : ℕ) → length (ofEndpoint r d e) ≡ 13
 unfolding ofEndpoint lengthsAt ofData
 thirteen r d e = length-append (shownAt r e ++ lengthsAt r e) (ofData d) ∙ omega (arith, length-append (shownAt r e) (lengthsAt r e), six r e)
 
-of-endpoints : (r : Regs) (ds : List EndpointData) (n : ℕ) → length (ofEndpoints r ds n) ≡ 13 * n
+of-endpoints : (r : File) (ds : List EndpointData) (n : ℕ) → length (ofEndpoints r ds n) ≡ 13 * n
 unfolding ofEndpoints
 of-endpoints r ds zero = refl
 of-endpoints r ds (suc n) =
@@ -28,5 +28,5 @@ of-endpoints r ds (suc n) =
 pub ninety-six : (k : Record) → length (recordNumbers k) ≡ 96
 unfolding recordNumbers ofChip ofFlags
 ninety-six k =
-    length-append (ofChip (k .regs) ++ ofEndpoints (k .regs) (k .endpoints) 6) (ofFlags (k .«control_state») (k .irq))
-    ∙ omega (arith, length-append (ofChip (k .regs)) (ofEndpoints (k .regs) (k .endpoints) 6), of-endpoints (k .regs) (k .endpoints) 6)
+    length-append (ofChip (k .regs .words) ++ ofEndpoints (k .regs .words) (k .endpoints) 6) (ofFlags (k .«control_state») (k .irq))
+    ∙ omega (arith, length-append (ofChip (k .regs .words)) (ofEndpoints (k .regs .words) (k .endpoints) 6), of-endpoints (k .regs .words) (k .endpoints) 6)

@@ -1,3 +1,4 @@
 pub mod Written
+pub mod Selected
 pub mod Counted
 pub mod Examples

@@ -3,17 +3,21 @@ use Prim.Native.Nat.{ℕ, zero, suc, _+_, _*_, _/_, _%_, _≤_, _<_}
 use native.Mathlib.Omega.{arith}
 use native.Mathlib.Decide.{decLt}
 use native.Mathlib.Numerals.{add-one}
-use mathlib.Core.Path.{_≡_, refl, sym, ap}
-use mathlib.Core.List.{List, [], _∷_, _++_}
+use mathlib.Core.Path.{_≡_, refl, sym, ap, _∙_}
+use mathlib.Core.Bool.{cond}
+use mathlib.Core.List.{List, [], _∷_, _++_, append-assoc}
 use lib.ListN.{length, getD, length-append}
 use Rattle.text.specs.Text.{Wrote, decimal, field, fields}
 use Rattle.text.proofs.Decimal.{more-digits, length-3}
 use Rattle.text.proofs.Appended.{then, said, fields-append}
-use Rattle.regs.specs.declared.Regs.{Regs}
+use Rattle.board.specs.declared.Direction.the-variants.{Out, In}
+use Rattle.csr.specs.declared.Side.{Side}
+use Rattle.csr.specs.Control.{txcsrlOf, rxcsrlOf, txcsrlNumber, rxcsrlNumber}
+use Rattle.regs.specs.Registers.{File, sideAt}
 use Rattle.endpoints.specs.declared.EndpointData.{EndpointData}
 use Rattle.endpoints.specs.Endpoints.{blank}
 use Rattle.details.specs.Lines.{store, stores}
-use Rattle.details.specs.Numbers.{registersAt, shownAt, ofEndpoint, ofEndpoints}
+use Rattle.details.specs.Numbers.{txcsrlAt, rxcsrlAt, registersAt, shownAt, lengthsAt, ofData, ofEndpoint, ofEndpoints}
 
 -- a digit more, ten times as far
 longer : (j n : ℕ) → ((m : ℕ) → m ≤ n / 10 → length (decimal m) ≤ j) → 3 ≤ j → length (decimal n) ≤ suc j
@@ -58,26 +62,42 @@ stores-all l i e w = said (ap (stores l) e) w
 pub on : {a b c : List ℕ} {at m r : ℕ} (xs ys : List ℕ) → Wrote a b at m (fields xs) → Wrote b c m r (fields ys) → Wrote a c at r (fields (xs ++ ys))
 on xs ys v w = said (sym (fields-append xs ys)) (then v w)
 
+-- an endpoint's numbers, in two arrays
+pub endpoint-ends : {a b c : List ℕ} {at m n : ℕ} {xs ys : List ℕ} (r : File) (d : EndpointData) (e : ℕ) → xs ≡ shownAt r e
+    → Wrote a b at m (fields xs) → ys ≡ lengthsAt r e ++ ofData d → Wrote b c m n (fields ys) → Wrote a c at n (fields (ofEndpoint r d e))
+unfolding ofEndpoint
+endpoint-ends r d e ex v ey w =
+    said (ap fields (sym (append-assoc (shownAt r e) (lengthsAt r e) (ofData d)))) (on _ _ (said (ap fields ex) v) (said (ap fields ey) w))
+
 -- the loop of `put_endpoints`
-pub endpoints-none : {a : List ℕ} {at : ℕ} (r : Regs) (ds : List EndpointData) → Wrote a a at at (fields (ofEndpoints r ds 0))
+pub endpoints-none : {a : List ℕ} {at : ℕ} (r : File) (ds : List EndpointData) → Wrote a a at at (fields (ofEndpoints r ds 0))
 unfolding fields ofEndpoints
 endpoints-none r ds = record { count = omega arith; bytes = refl }
 
-pub endpoints-more : {a b c : List ℕ} {at m n : ℕ} (r : Regs) (ds : List EndpointData) (i : ℕ) → Wrote a b at m (fields (ofEndpoints r ds i))
+pub endpoints-more : {a b c : List ℕ} {at m n : ℕ} (r : File) (ds : List EndpointData) (i : ℕ) → Wrote a b at m (fields (ofEndpoints r ds i))
     → Wrote b c m n (fields (ofEndpoint r (getD ds i blank) i)) → Wrote a c at n (fields (ofEndpoints r ds (i + 1)))
 unfolding ofEndpoints
 endpoints-more r ds i v w = said (ap (λ (k : ℕ). fields (ofEndpoints r ds k)) (sym (add-one i))) (on _ _ v w)
 
-pub endpoints-all : {a b : List ℕ} {at m n : ℕ} (r : Regs) (ds : List EndpointData) (i : ℕ) → i ≡ n
+pub endpoints-all : {a b : List ℕ} {at m n : ℕ} (r : File) (ds : List EndpointData) (i : ℕ) → i ≡ n
     → Wrote a b at m (fields (ofEndpoints r ds i)) → Wrote a b at m (fields (ofEndpoints r ds n))
 endpoints-all r ds i e w = said (ap (λ (k : ℕ). fields (ofEndpoints r ds k)) e) w
 
 -- `shown_at`: endpoint 0, and the others
-pub shown-zero : (r : Regs) (e : ℕ) → e ≡ 0 → 0 ∷ 0 ∷ 0 ∷ 0 ∷ 0 ∷ 0 ∷ [] ≡ shownAt r e
+pub shown-zero : (r : File) (e : ℕ) → e ≡ 0 → 0 ∷ 0 ∷ 0 ∷ 0 ∷ 0 ∷ 0 ∷ [] ≡ shownAt r e
 unfolding shownAt
 shown-zero r e h = rw h refl
 
-pub shown-other : {l : List ℕ} (r : Regs) (e : ℕ) → (e ≡ 0 → ⊥) → l ≡ registersAt r e → l ≡ shownAt r e
-unfolding shownAt
-shown-other r zero n h = absurd (n refl)
-shown-other r (suc e) n h = h
+pub shown-other : {t x : Side} {a b i j m n : ℕ} (r : File) (e : ℕ) → (e ≡ 0 → ⊥) → t ≡ sideAt r e In → x ≡ sideAt r e Out
+    → a ≡ txcsrlNumber (txcsrlOf t) → b ≡ rxcsrlNumber (rxcsrlOf x) → i ≡ cond (t .iso) 64 0 → j ≡ cond (x .iso) 64 0
+    → m ≡ t .maxp → n ≡ x .maxp → a ∷ b ∷ i ∷ j ∷ m ∷ n ∷ [] ≡ shownAt r e
+unfolding shownAt registersAt txcsrlAt rxcsrlAt
+shown-other r zero h et ex ea eb ei ej em en = absurd (h refl)
+shown-other r (suc e) h et ex ea eb ei ej em en =
+    let a = ea ∙ ap (λ (s : Side). txcsrlNumber (txcsrlOf s)) et in
+    let b = eb ∙ ap (λ (s : Side). rxcsrlNumber (rxcsrlOf s)) ex in
+    let i = ei ∙ ap (λ (s : Side). cond (s .iso) 64 0) et in
+    let j = ej ∙ ap (λ (s : Side). cond (s .iso) 64 0) ex in
+    let m = em ∙ ap (λ (s : Side). s .maxp) et in
+    let n = en ∙ ap (λ (s : Side). s .maxp) ex in
+    λ k. a k ∷ b k ∷ i k ∷ j k ∷ m k ∷ n k ∷ []

@@ -5,15 +5,13 @@ use control_state::ControlState;
 use endpoints::EndpointData;
 use record::Flags;
 use record::Record;
-use regs::Intrusb;
-use regs::Regs;
 ghost use mathlib.Core.Path.{_≡_};
-ghost use mathlib.Core.Bool.{cond};
+ghost use mathlib.Core.List.{_++_};
 ghost use Prim.Native.Nat.{_+_, _*_, _≤_, _<_};
 ghost use lib.ListN.{length};
 ghost use Rattle.text.specs.Text.{Wrote, fields};
 ghost use Rattle.details.specs.Lines.{store, stores, storesLine, recordLine};
-ghost use Rattle.details.specs.Numbers.{intrusbNumber, csr0lAt, ofChip, txcsrlAt, rxcsrlAt, registersAt, shownAt, lengthsAt, ofData, ofEndpoint, ofEndpoints, ofFlags, recordNumbers};
+ghost use Rattle.details.specs.Numbers.{ofChip, shownAt, lengthsAt, ofData, ofEndpoint, ofEndpoints, ofFlags};
 
 fn wide(x: u16) -> u32
     ensures { λ r. ⌜ (r ≡ x) × (r < 65536) ⌝ }
@@ -59,107 +57,59 @@ pub fn stores_line(out: &mut [u8], list: &[u16], n: usize) -> usize
     text::put_text(out, b, b"\n")
 }
 
-fn weight(b: bool, n: u32) -> u32
-    ensures { λ r. ⌜ (r ≡ cond b n 0) × (r ≤ n) ⌝ }
-{
-    if b { n } else { 0 }
-}
-
-fn intrusb_number(u: Intrusb) -> u32
-    ensures { λ n. ⌜ n ≡ intrusbNumber u ⌝ }
-{
-    weight(u.suspend, 1) + weight(u.resume, 2) + weight(u.reset, 4)
-}
-
-fn csr0l_number(r: Regs) -> u16
-    ensures { λ n. ⌜ n ≡ csr0lAt r ⌝ }
-{
-    csr::csr0l_number(regs::read_csr0l(r))
-}
-
 // The registers of the chip as a whole, and endpoint 0's own.
-fn of_chip(r: Regs) -> [u32; 10]
-    ensures { λ l. ⌜ l ≡ ofChip r ⌝ }
+fn of_chip(w: &[u16; 46]) -> [u32; 10]
+    ensures { λ l. ⌜ l ≡ ofChip (now (w .entry)) ⌝ }
 {
-    let on = r.enable;
-    let raised = r.pending;
-    let bus = raised.usb;
     [
-        r.faddr as u32,
-        r.power as u32,
-        r.index as u32,
-        on.tx as u32,
-        on.rx as u32,
-        on.usb as u32,
-        intrusb_number(bus),
-        raised.tx as u32,
-        raised.rx as u32,
-        csr0l_number(r) as u32,
+        wide(w[regs::FADDR]),
+        wide(w[regs::POWER]),
+        wide(w[regs::INDEX]),
+        wide(w[regs::INTRTXE]),
+        wide(w[regs::INTRRXE]),
+        wide(w[regs::INTRUSBE]),
+        wide(w[regs::INTRUSB]),
+        wide(w[regs::INTRTX]),
+        wide(w[regs::INTRRX]),
+        wide(csr::csr0l_number(regs::read_csr0l(w))),
     ]
 }
 
-// What TXCSRL reads with an endpoint selected.
-fn txcsrl_at(r: Regs, e: u8) -> u16
-    ensures { λ n. ⌜ n ≡ txcsrlAt r e ⌝ }
-{
-    let mut s = r;
-    s.index = e;
-    csr::txcsrl_number(regs::read_txcsrl(s))
-}
-
-fn rxcsrl_at(r: Regs, e: u8) -> u16
-    ensures { λ n. ⌜ n ≡ rxcsrlAt r e ⌝ }
-{
-    let mut s = r;
-    s.index = e;
-    csr::rxcsrl_number(regs::read_rxcsrl(s))
-}
-
-fn registers_at(r: Regs, e: u8) -> [u32; 6]
-    ensures { λ l. ⌜ l ≡ registersAt r e ⌝ }
-{
-    let tx = regs::side_at(r, e, Direction::In);
-    let rx = regs::side_at(r, e, Direction::Out);
-    [
-        txcsrl_at(r, e) as u32,
-        rxcsrl_at(r, e) as u32,
-        weight(tx.iso, 64),
-        weight(rx.iso, 64),
-        tx.maxp as u32,
-        rx.maxp as u32,
-    ]
-}
-
-// Endpoint 0 has none of these registers: its bits stand in CSR0L.
-fn shown_at(r: Regs, e: u8) -> [u32; 6]
-    ensures { λ l. ⌜ l ≡ shownAt r e ⌝ }
+// An endpoint's own registers, as they read with it selected. Endpoint 0 has none of them: its bits stand in CSR0L.
+fn shown_at(w: &[u16; 46], e: u16) -> [u32; 6]
+    ensures { λ l. ⌜ l ≡ shownAt (now (w .entry)) e ⌝ }
 {
     if e == 0 {
         return [0u32; 6];
     }
-    registers_at(r, e)
+    let tx = regs::side_at(w, e, Direction::In);
+    let rx = regs::side_at(w, e, Direction::Out);
+    [
+        wide(csr::txcsrl_number(csr::txcsrl_of(tx))),
+        wide(csr::rxcsrl_number(csr::rxcsrl_of(rx))),
+        wide(csr::weight(tx.iso, 64)),
+        wide(csr::weight(rx.iso, 64)),
+        wide(tx.maxp),
+        wide(rx.maxp),
+    ]
 }
 
-fn lengths_at(r: Regs, e: u8) -> [u32; 2]
-    ensures { λ l. ⌜ l ≡ lengthsAt r e ⌝ }
+// The lengths that wait at an endpoint, and what allocation recorded of it.
+fn rest_at(w: &[u16; 46], e: u16, d: EndpointData) -> [u32; 7]
+    ensures { λ l. ⌜ l ≡ lengthsAt (now (w .entry)) e ++ ofData d ⌝ }
 {
-    let tx = regs::side_at(r, e, Direction::In);
-    let rx = regs::side_at(r, e, Direction::Out);
-    [tx.len as u32, rx.len as u32]
-}
-
-// What allocation recorded of an endpoint.
-fn of_data(d: EndpointData) -> [u32; 5]
-    ensures { λ l. ⌜ l ≡ ofData d ⌝ }
-{
+    let tx = regs::side_at(w, e, Direction::In);
+    let rx = regs::side_at(w, e, Direction::Out);
     let conf = d.ep_conf;
     let kind = conf.ep_type;
     [
+        wide(tx.len),
+        wide(rx.len),
         endpoints::type_number(kind) as u32,
-        conf.tx_max_packet_size as u32,
-        conf.rx_max_packet_size as u32,
-        weight(d.used_tx, 1),
-        weight(d.used_rx, 1),
+        wide(conf.tx_max_packet_size),
+        wide(conf.rx_max_packet_size),
+        wide(csr::weight(d.used_tx, 1)),
+        wide(csr::weight(d.used_rx, 1)),
     ]
 }
 
@@ -171,12 +121,12 @@ fn of_flags(c: ControlState, f: Flags) -> [u32; 8]
     [
         control_state::number(state) as u32,
         c.tx_len,
-        weight(f.reset, 1),
-        weight(f.suspend, 1),
-        weight(f.resume, 1),
-        weight(f.ep0, 1),
-        f.ep_tx as u32,
-        f.ep_rx as u32,
+        wide(csr::weight(f.reset, 1)),
+        wide(csr::weight(f.suspend, 1)),
+        wide(csr::weight(f.resume, 1)),
+        wide(csr::weight(f.ep0, 1)),
+        wide(f.ep_tx),
+        wide(f.ep_rx),
     ]
 }
 
@@ -196,56 +146,45 @@ fn put_numbers(out: &mut [u8], at: usize, s: &[u32]) -> usize
 }
 
 // An endpoint's thirteen numbers.
-fn put_endpoint(out: &mut [u8], at: usize, r: Regs, d: EndpointData, e: u8) -> usize
+fn put_endpoint(out: &mut [u8], at: usize, w: &[u16; 46], d: EndpointData, e: u16) -> usize
     requires { ⌜ at + 143 ≤ length (now out) ⌝ }
-    ensures { λ n. ⌜ Wrote (now (out .entry)) (now (out .exit)) at n (fields (ofEndpoint r d e)) ⌝ }
+    ensures { λ n. ⌜ Wrote (now (out .entry)) (now (out .exit)) at n (fields (ofEndpoint (now (w .entry)) d e)) ⌝ }
     ensures { λ n. ⌜ n ≤ at + 143 ⌝ }
 {
-    let registers = shown_at(r, e);
+    let registers = shown_at(w, e);
     let a = put_numbers(out, at, &registers);
-    let lengths = lengths_at(r, e);
-    let b = put_numbers(out, a, &lengths);
-    let data = of_data(d);
-    put_numbers(out, b, &data)
+    let rest = rest_at(w, e, d);
+    put_numbers(out, a, &rest)
 }
 
-fn put_endpoints(out: &mut [u8], at: usize, r: Regs, endpoints: [EndpointData; 6]) -> usize
+fn put_endpoints(out: &mut [u8], at: usize, w: &[u16; 46], endpoints: [EndpointData; 6]) -> usize
     requires { ⌜ at + 858 ≤ length (now out) ⌝ }
-    ensures { λ n. ⌜ Wrote (now (out .entry)) (now (out .exit)) at n (fields (ofEndpoints r endpoints 6)) ⌝ }
+    ensures { λ n. ⌜ Wrote (now (out .entry)) (now (out .exit)) at n (fields (ofEndpoints (now (w .entry)) endpoints 6)) ⌝ }
     ensures { λ n. ⌜ n ≤ at + 858 ⌝ }
 {
     let mut i = 0usize;
     let mut m = at;
     while i < 6 {
-        m = put_endpoint(out, m, r, endpoints[i], i as u8);
+        m = put_endpoint(out, m, w, endpoints[i], i as u16);
         i += 1;
     }
     m
 }
 
 // The record's 96 numbers.
-fn put_record(out: &mut [u8], at: usize, k: Record) -> usize
-    requires { ⌜ at + 1056 ≤ length (now out) ⌝ }
-    ensures { λ r. ⌜ Wrote (now (out .entry)) (now (out .exit)) at r (fields (recordNumbers k)) ⌝ }
-    ensures { λ r. ⌜ r ≤ at + 1056 ⌝ }
-{
-    let regs = k.regs;
-    let chip = of_chip(regs);
-    let a = put_numbers(out, at, &chip);
-    let endpoints = k.endpoints;
-    let b = put_endpoints(out, a, regs, endpoints);
-    let control = k.control_state;
-    let irq = k.irq;
-    let flags = of_flags(control, irq);
-    put_numbers(out, b, &flags)
-}
-
 pub fn record_line(out: &mut [u8], k: Record) -> usize
     requires { ⌜ 1100 ≤ length (now out) ⌝ }
     ensures { λ r. ⌜ Wrote (now (out .entry)) (now (out .exit)) 0 r (recordLine k) ⌝ }
     ensures { λ r. ⌜ r ≤ 1100 ⌝ }
 {
+    let r = k.regs;
+    let w = r.words;
+    let endpoints = k.endpoints;
     let a = text::put_text(out, 0, b"  record");
-    let b = put_record(out, a, k);
-    text::put_text(out, b, b"\n")
+    let chip = of_chip(&w);
+    let b = put_numbers(out, a, &chip);
+    let c = put_endpoints(out, b, &w, endpoints);
+    let flags = of_flags(k.control_state, k.irq);
+    let d = put_numbers(out, c, &flags);
+    text::put_text(out, d, b"\n")
 }

@@ -5,7 +5,7 @@ use Prim.Native.Nat.{ℕ}
 use mathlib.Core.Bool.{Bool, true, false, cond}
 use Rattle.board.specs.declared.Direction.{Direction}
 use Rattle.board.specs.declared.Direction.the-variants.{Out, In}
-use Rattle.regs.specs.declared.Regs.{Regs}
+use Rattle.regs.specs.Registers.{File}
 use Rattle.csr.specs.declared.Csr0lSet.the-variants.{ServicedBoth}
 use Rattle.csr.specs.declared.TxcsrlSet.the-variants as txcsrl
 use Rattle.csr.specs.declared.RxcsrlSet.the-variants as rxcsrl
@@ -38,7 +38,7 @@ unfoldable pub isoWritten : Direction → Bool → Log → Log
 isoWritten d iso g = cond iso (writeIso d g) g
 
 -- `if txcsrl().read().fifo_not_empty()`, `if rxcsrl().read().rx_pkt_rdy()`: then flush, twice
-unfoldable pub waits : Direction → Regs → Bool
+unfoldable pub waits : Direction → File → Bool
 waits Out r = rxcsrlRead r .«rx_pkt_rdy»
 waits In r = txcsrlRead r .«fifo_not_empty»
 

@@ -1,132 +1,137 @@
 // What the source keeps in its common_impl.rs, second part: an endpoint is enabled, in one direction.
-// Each function takes the registers and how many stores stand in the lent list, and gives both back.
+// Each function is lent the register file, takes how many stores stand in the lent list, and gives back how many stand there now.
 use board::Direction;
 use csr::Csr0lSet;
 use csr::RxcsrlSet;
 use csr::TxcsrlSet;
 use endpoints::EndpointConfig;
 use endpoints::EndpointType;
-use regs::Regs;
-use stores::Logged;
 ghost use mathlib.Core.Path.{_≡_};
 ghost use Prim.Native.Nat.{_+_, _*_, _≤_, _<_};
 ghost use lib.ListN.{length};
-ghost use Rattle.stores.specs.Stores.{log, logOf};
+ghost use Rattle.stores.specs.Stores.{log};
 ghost use Rattle.enabling.specs.Common.{flushedZero, enabledZero, isoWritten, waits, flush, flushed, sized, settled, enabledOther, enabled, isochronous, epTxEnable, epRxEnable};
 
-fn flush_zero(r: Regs, list: &mut [u16], n: usize) -> Logged
+fn flush_zero(w: &mut [u16; 46], list: &mut [u16], n: usize) -> usize
     requires { ⌜ n * 3 + 3 ≤ length (now list) ⌝ }
-    ensures { λ o. ⌜ (logOf o (now (list .exit)) ≡ flushedZero (log r (now (list .entry)) n)) × (o .n ≡ n + 1) ⌝ }
+    ensures { λ m. ⌜ (log (now (w .exit)) (now (list .exit)) m ≡ flushedZero (log (now (w .entry)) (now (list .entry)) n)) × (m ≡ n + 1) ⌝ }
 {
-    stores::flush_csr0h(r, list, n)
+    stores::flush_csr0h(w, list, n)
 }
 
 // Endpoint 0 has one interrupt enable bit for both directions.
-fn enable_zero(r: Regs, list: &mut [u16], n: usize) -> Logged
+fn enable_zero(w: &mut [u16; 46], list: &mut [u16], n: usize) -> usize
     requires { ⌜ n * 3 + 9 ≤ length (now list) ⌝ }
-    ensures { λ o. ⌜ (logOf o (now (list .exit)) ≡ enabledZero (log r (now (list .entry)) n)) × (o .n ≡ n + 3) ⌝ }
+    ensures { λ m. ⌜ (log (now (w .exit)) (now (list .exit)) m ≡ enabledZero (log (now (w .entry)) (now (list .entry)) n)) × (m ≡ n + 3) ⌝ }
 {
-    let a = stores::modify_intre(r, list, n, Direction::In, 0);
-    let b = stores::modify_csr0l(a.regs, list, a.n, Csr0lSet::ServicedBoth);
-    flush_zero(b.regs, list, b.n)
+    let a = stores::modify_intre(w, list, n, Direction::In, 0);
+    let b = stores::modify_csr0l(w, list, a, Csr0lSet::ServicedBoth);
+    flush_zero(w, list, b)
 }
 
-fn write_size(r: Regs, list: &mut [u16], n: usize, d: Direction, size: u16) -> Logged
+fn write_size(w: &mut [u16; 46], list: &mut [u16], n: usize, d: Direction, size: u16) -> usize
     requires { ⌜ n * 3 + 3 ≤ length (now list) ⌝ }
-    ensures { λ o. ⌜ (logOf o (now (list .exit)) ≡ sized d size (log r (now (list .entry)) n)) × (o .n ≡ n + 1) ⌝ }
+    ensures { λ m. ⌜ (log (now (w .exit)) (now (list .exit)) m ≡ sized d size (log (now (w .entry)) (now (list .entry)) n)) × (m ≡ n + 1) ⌝ }
 {
-    stores::write_maxp(r, list, n, d, size)
+    stores::write_maxp(w, list, n, d, size)
 }
 
-fn write_iso_if(r: Regs, list: &mut [u16], n: usize, d: Direction, iso: bool) -> Logged
+fn write_iso_if(w: &mut [u16; 46], list: &mut [u16], n: usize, d: Direction, iso: bool) -> usize
     requires { ⌜ n * 3 + 3 ≤ length (now list) ⌝ }
-    ensures { λ o. ⌜ (logOf o (now (list .exit)) ≡ isoWritten d iso (log r (now (list .entry)) n)) × (o .n ≤ n + 1) ⌝ }
+    ensures { λ m. ⌜ (log (now (w .exit)) (now (list .exit)) m ≡ isoWritten d iso (log (now (w .entry)) (now (list .entry)) n)) × (m ≤ n + 1) ⌝ }
 {
     if iso {
-        return stores::write_iso(r, list, n, d);
+        return stores::write_iso(w, list, n, d);
     }
-    Logged { regs: r, n: n }
+    n
 }
 
-fn packet_waits(r: Regs, d: Direction) -> bool
-    ensures { λ b. ⌜ b ≡ waits d r ⌝ }
+fn packet_waits(w: &[u16; 46], d: Direction) -> bool
+    ensures { λ b. ⌜ b ≡ waits d (now (w .entry)) ⌝ }
 {
     match d {
         Direction::Out => {
-            let w = regs::read_rxcsrl(r);
-            w.rx_pkt_rdy
+            let v = regs::read_rxcsrl(w);
+            v.rx_pkt_rdy
         }
         Direction::In => {
-            let w = regs::read_txcsrl(r);
-            w.fifo_not_empty
+            let v = regs::read_txcsrl(w);
+            v.fifo_not_empty
         }
     }
 }
 
-fn flush_fifo(r: Regs, list: &mut [u16], n: usize, d: Direction) -> Logged
+fn flush_fifo(w: &mut [u16; 46], list: &mut [u16], n: usize, d: Direction) -> usize
     requires { ⌜ n * 3 + 3 ≤ length (now list) ⌝ }
-    ensures { λ o. ⌜ (logOf o (now (list .exit)) ≡ flush d (log r (now (list .entry)) n)) × (o .n ≡ n + 1) ⌝ }
+    ensures { λ m. ⌜ (log (now (w .exit)) (now (list .exit)) m ≡ flush d (log (now (w .entry)) (now (list .entry)) n)) × (m ≡ n + 1) ⌝ }
 {
     match d {
-        Direction::Out => stores::modify_rxcsrl(r, list, n, RxcsrlSet::FlushFifo),
-        Direction::In => stores::modify_txcsrl(r, list, n, TxcsrlSet::FlushFifo),
+        Direction::Out => stores::modify_rxcsrl(w, list, n, RxcsrlSet::FlushFifo),
+        Direction::In => stores::modify_txcsrl(w, list, n, TxcsrlSet::FlushFifo),
     }
 }
 
-fn flush_if_waiting(r: Regs, list: &mut [u16], n: usize, d: Direction) -> Logged
+fn flush_if_waiting(w: &mut [u16; 46], list: &mut [u16], n: usize, d: Direction) -> usize
     requires { ⌜ n * 3 + 6 ≤ length (now list) ⌝ }
-    ensures { λ o. ⌜ (logOf o (now (list .exit)) ≡ flushed d (log r (now (list .entry)) n)) × (o .n ≤ n + 2) ⌝ }
+    ensures { λ m. ⌜ (log (now (w .exit)) (now (list .exit)) m ≡ flushed d (log (now (w .entry)) (now (list .entry)) n)) × (m ≤ n + 2) ⌝ }
 {
-    if packet_waits(r, d) {
-        let a = flush_fifo(r, list, n, d);
-        return flush_fifo(a.regs, list, a.n, d);
+    if packet_waits(w, d) {
+        let a = flush_fifo(w, list, n, d);
+        return flush_fifo(w, list, a, d);
     }
-    Logged { regs: r, n: n }
+    n
 }
 
-fn set_up(r: Regs, list: &mut [u16], n: usize, d: Direction, index: u8, size: u16) -> Logged
+fn set_up(
+    w: &mut [u16; 46],
+    list: &mut [u16],
+    n: usize,
+    d: Direction,
+    index: u8,
+    size: u16,
+) -> usize
     requires { ⌜ (index < 16) × (n * 3 + 9 ≤ length (now list)) ⌝ }
-    ensures { λ o. ⌜ (logOf o (now (list .exit)) ≡ settled d index size (log r (now (list .entry)) n)) × (o .n ≡ n + 3) ⌝ }
+    ensures { λ m. ⌜ (log (now (w .exit)) (now (list .exit)) m ≡ settled d index size (log (now (w .entry)) (now (list .entry)) n)) × (m ≡ n + 3) ⌝ }
 {
-    let a = stores::modify_intre(r, list, n, d, index);
-    let b = write_size(a.regs, list, a.n, d, size);
-    common_impl::write_csrl(b.regs, list, b.n, d, false, true)
+    let a = stores::modify_intre(w, list, n, d, index);
+    let b = write_size(w, list, a, d, size);
+    common_impl::write_csrl(w, list, b, d, false, true)
 }
 
 fn enable_other(
-    r: Regs,
+    w: &mut [u16; 46],
     list: &mut [u16],
     n: usize,
     d: Direction,
     index: u8,
     iso: bool,
     size: u16,
-) -> Logged
+) -> usize
     requires { ⌜ (index < 16) × (n * 3 + 18 ≤ length (now list)) ⌝ }
-    ensures { λ o. ⌜ (logOf o (now (list .exit)) ≡ enabledOther d index iso size (log r (now (list .entry)) n)) × (o .n ≤ n + 6) ⌝ }
+    ensures { λ m. ⌜ (log (now (w .exit)) (now (list .exit)) m ≡ enabledOther d index iso size (log (now (w .entry)) (now (list .entry)) n)) × (m ≤ n + 6) ⌝ }
 {
-    let a = set_up(r, list, n, d, index, size);
-    let b = write_iso_if(a.regs, list, a.n, d, iso);
-    flush_if_waiting(b.regs, list, b.n, d)
+    let a = set_up(w, list, n, d, index, size);
+    let b = write_iso_if(w, list, a, d, iso);
+    flush_if_waiting(w, list, b, d)
 }
 
 fn enable(
-    r: Regs,
+    w: &mut [u16; 46],
     list: &mut [u16],
     n: usize,
     d: Direction,
     index: u8,
     iso: bool,
     size: u16,
-) -> Logged
+) -> usize
     requires { ⌜ (index < 16) × (n * 3 + 21 ≤ length (now list)) ⌝ }
-    ensures { λ o. ⌜ (logOf o (now (list .exit)) ≡ enabled d index iso size (log r (now (list .entry)) n)) × (o .n ≤ n + 7) ⌝ }
+    ensures { λ m. ⌜ (log (now (w .exit)) (now (list .exit)) m ≡ enabled d index iso size (log (now (w .entry)) (now (list .entry)) n)) × (m ≤ n + 7) ⌝ }
 {
-    let a = stores::write_index(r, list, n, index);
+    let a = stores::write_index(w, list, n, index);
     if index == 0 {
-        return enable_zero(a.regs, list, a.n);
+        return enable_zero(w, list, a);
     }
-    enable_other(a.regs, list, a.n, d, index, iso, size)
+    enable_other(w, list, a, d, index, iso, size)
 }
 
 fn is_isochronous(t: EndpointType) -> bool
@@ -136,18 +141,18 @@ fn is_isochronous(t: EndpointType) -> bool
 }
 
 pub fn ep_tx_enable(
-    r: Regs,
+    w: &mut [u16; 46],
     list: &mut [u16],
     n: usize,
     index: u8,
     config: EndpointConfig,
-) -> Logged
+) -> usize
     requires { ⌜ (index < 16) × (n * 3 + 21 ≤ length (now list)) ⌝ }
-    ensures { λ o. ⌜ (logOf o (now (list .exit)) ≡ epTxEnable index config (log r (now (list .entry)) n)) × (o .n ≤ n + 7) ⌝ }
+    ensures { λ m. ⌜ (log (now (w .exit)) (now (list .exit)) m ≡ epTxEnable index config (log (now (w .entry)) (now (list .entry)) n)) × (m ≤ n + 7) ⌝ }
 {
     let t = config.ep_type;
     enable(
-        r,
+        w,
         list,
         n,
         Direction::In,
@@ -158,18 +163,18 @@ pub fn ep_tx_enable(
 }
 
 pub fn ep_rx_enable(
-    r: Regs,
+    w: &mut [u16; 46],
     list: &mut [u16],
     n: usize,
     index: u8,
     config: EndpointConfig,
-) -> Logged
+) -> usize
     requires { ⌜ (index < 16) × (n * 3 + 21 ≤ length (now list)) ⌝ }
-    ensures { λ o. ⌜ (logOf o (now (list .exit)) ≡ epRxEnable index config (log r (now (list .entry)) n)) × (o .n ≤ n + 7) ⌝ }
+    ensures { λ m. ⌜ (log (now (w .exit)) (now (list .exit)) m ≡ epRxEnable index config (log (now (w .entry)) (now (list .entry)) n)) × (m ≤ n + 7) ⌝ }
 {
     let t = config.ep_type;
     enable(
-        r,
+        w,
         list,
         n,
         Direction::Out,

@@ -7,8 +7,7 @@ use lib.Dec.{eqb}
 use Rattle.board.specs.declared.Direction.{Direction}
 use Rattle.board.specs.declared.Direction.the-variants.{Out, In}
 use Rattle.csr.specs.declared.Side.{Side}
-use Rattle.regs.specs.declared.Regs.{Regs}
-use Rattle.regs.specs.Registers.{Whole, sideAt}
+use Rattle.regs.specs.Registers.{File, Whole, sideAt}
 use Rattle.csr.specs.Registers.{towards}
 use Rattle.csr.specs.Control.{dropped}
 use Rattle.events.specs.Events.{lapsed}
@@ -39,5 +38,5 @@ leaves-stall resume e d s m = refl
 leaves-stall setupend e d s m = refl
 leaves-stall (miss f c) e d s m = either (eqb e f) _ s (towards-stall c d lapsed s refl)
 
-pub halts : (o : Event) (r : Regs) → Whole r → at o < 6 → (e : ℕ) (d : Direction) → (e ≡ 0 → ⊥) → sideAt (happens o r) e d .stall ≡ sideAt r e d .stall
+pub halts : (o : Event) (r : File) → Whole r → at o < 6 → (e : ℕ) (d : Direction) → (e ≡ 0 → ⊥) → sideAt (happens o r) e d .stall ≡ sideAt r e d .stall
 halts o r six h e d m = ap (λ (x : Side). x .stall) (sides o r e d six h) ∙ leaves-stall o e d (sideAt r e d) m

@@ -1,40 +1,104 @@
 -- The registers that no side holds, after every event, and the interrupt registers, each cleared by its own read. Assumes nothing.
-use mathlib.Core.Path.{_≡_, refl}
+use Prim.Native.Nat.{ℕ}
+use mathlib.Core.Path.{_≡_, ap, _∙_}
 use mathlib.Core.Bool.{Bool, true, false, cond}
+use native.Mathlib.Omega.{arith}
 use lib.Dec.{eqb}
+use lib.Seq.{getD-set-same, getD-set-other}
+use Rattle.laws.specs.Words.{raised}
+use Rattle.board.specs.declared.Direction.{Direction}
 use Rattle.board.specs.declared.Direction.the-variants.{Out, In}
-use Rattle.regs.specs.declared.Regs.{Regs}
-use Rattle.regs.specs.Registers.{noPending, sideAt, withSide}
-use Rattle.events.specs.Events.{interrupting, waitingAt, arrived, collected, busReset, busSuspend, busResume, setupEnded, missing, unstalled, intrusbCleared, intrCleared}
-use Rattle.events.specs.Promise.{Event, arrival, collection, reset, suspend, resume, setupend, miss, happens, Others}
+use Rattle.regs.specs.Registers as file
+use Rattle.regs.specs.Registers.{File, Whole, sideAt, withSide, intrusb, intrOf, withIntrusb, withIntr, withSetupend}
+use Rattle.regs.specs.Sound.{Clean}
+use Rattle.csr.specs.Control.{dropped}
+use Rattle.regs.proofs.Sides.{keeps-setupend, keeps-length}
+use Rattle.regs.proofs.Soundness.{clean-side, clean-set, clean-setupend}
+use Rattle.events.specs.Events.{busBit, interrupting, received, unstalled, waitingAt, arrived, collected, busRaised, busReset, busSuspend, busResume, setupEnded, missing, lapsed, intrusbCleared, intrCleared}
+use Rattle.events.specs.declared.BusEvent.{BusEvent}
+use Rattle.events.specs.declared.BusEvent.the-variants.{Suspend, Resume, Reset}
+use Rattle.events.specs.Promise.{Event, arrival, collection, reset, suspend, resume, setupend, miss, happens, ends, Others}
+use Rattle.events.proofs.Promises.{number, arrival-keeps, collection-keeps, interrupt-keeps}
 
-pub others : (o : Event) (r : Regs) → Others o r (happens o r)
-unfolding arrived waitingAt collected busReset busSuspend busResume setupEnded missing interrupting withSide
-others (arrival f n) r = go (eqb f 0)
-  where
-    go : (b : Bool)
-        → Others (arrival f n) r (cond b (interrupting (withSide (waitingAt r 0 n) 0 In (unstalled (sideAt r 0 In))) In 0) (interrupting (waitingAt r f n) Out f))
-    go true = record { ended = refl; powered = refl; enable = refl }
-    go false = record { ended = refl; powered = refl; enable = refl }
-others (collection f) r = record { ended = refl; powered = refl; enable = refl }
-others reset r = record { ended = refl; powered = refl; enable = refl }
-others suspend r = record { ended = refl; powered = refl; enable = refl }
-others resume r = record { ended = refl; powered = refl; enable = refl }
-others setupend r = record { ended = refl; powered = refl; enable = refl }
-others (miss f c) r = record { ended = refl; powered = refl; enable = refl }
+one : (x y : ℕ) → x ≡ y → eqb x 1 ≡ eqb y 1
+one x y p = ap (λ (n : ℕ). eqb n 1) p
+
+-- SetupEnd
+setup-raised : (r : File) → Whole r → file.setupend (setupEnded r) ≡ true
+unfolding file.setupend setupEnded withSetupend
+setup-raised r six =
+    one _ _ (interrupt-keeps (withSetupend r true) In 0 9 (λ e. omega arith) (λ e. omega arith) ∙ getD-set-same r 9 1 0 (omega arith))
+
+ended : (o : Event) (r : File) → Whole r → file.setupend (happens o r) ≡ ends o (file.setupend r)
+unfolding file.setupend busReset busSuspend busResume busRaised withIntrusb missing
+ended (arrival f n) r six = one _ _ (arrival-keeps r f n 9 (omega arith) (λ e. omega arith) (λ e. omega arith))
+ended (collection f) r six = one _ _ (collection-keeps r f 9 (omega arith) (λ e. omega arith) (λ e. omega arith))
+ended reset r six = one _ _ (getD-set-other r 6 9 _ 0 (λ e. omega arith))
+ended suspend r six = one _ _ (getD-set-other r 6 9 _ 0 (λ e. omega arith))
+ended resume r six = one _ _ (getD-set-other r 6 9 _ 0 (λ e. omega arith))
+ended setupend r six = setup-raised r six
+ended (miss f c) r six = keeps-setupend r f c (lapsed (sideAt r f c))
+
+pub others : (o : Event) (r : File) → Whole r → Others o r (happens o r)
+others o r six = record { ended = ended o r six; number = λ i l h. number o r i (omega arith) }
 
 -- "Interrupt registers clear when read": the one that is read, and no other
-pub usb-clears : (r : Regs)
-    → (intrusbCleared r .pending .usb ≡ noPending .usb) × (intrusbCleared r .pending .tx ≡ r .pending .tx) × (intrusbCleared r .pending .rx ≡ r .pending .rx)
-unfolding intrusbCleared
-usb-clears r = (refl, refl, refl)
+pub usb-clears : (r : File) → Whole r
+    → (intrusb (intrusbCleared r) ≡ 0) × (intrOf (intrusbCleared r) In ≡ intrOf r In) × (intrOf (intrusbCleared r) Out ≡ intrOf r Out)
+unfolding intrusbCleared withIntrusb intrusb intrOf
+usb-clears r six = (getD-set-same r 6 0 0 (omega arith), getD-set-other r 6 7 0 0 (λ e. omega arith), getD-set-other r 6 8 0 0 (λ e. omega arith))
 
-pub tx-clears : (r : Regs)
-    → (intrCleared r In .pending .tx ≡ 0) × (intrCleared r In .pending .usb ≡ r .pending .usb) × (intrCleared r In .pending .rx ≡ r .pending .rx)
-unfolding intrCleared
-tx-clears r = (refl, refl, refl)
+pub tx-clears : (r : File) → Whole r
+    → (intrOf (intrCleared r In) In ≡ 0) × (intrusb (intrCleared r In) ≡ intrusb r) × (intrOf (intrCleared r In) Out ≡ intrOf r Out)
+unfolding intrCleared withIntr intrusb intrOf
+tx-clears r six = (getD-set-same r 7 0 0 (omega arith), getD-set-other r 7 6 0 0 (λ e. omega arith), getD-set-other r 7 8 0 0 (λ e. omega arith))
 
-pub rx-clears : (r : Regs)
-    → (intrCleared r Out .pending .rx ≡ 0) × (intrCleared r Out .pending .usb ≡ r .pending .usb) × (intrCleared r Out .pending .tx ≡ r .pending .tx)
-unfolding intrCleared
-rx-clears r = (refl, refl, refl)
+pub rx-clears : (r : File) → Whole r
+    → (intrOf (intrCleared r Out) Out ≡ 0) × (intrusb (intrCleared r Out) ≡ intrusb r) × (intrOf (intrCleared r Out) In ≡ intrOf r In)
+unfolding intrCleared withIntr intrusb intrOf
+rx-clears r six = (getD-set-same r 8 0 0 (omega arith), getD-set-other r 8 6 0 0 (λ e. omega arith), getD-set-other r 8 7 0 0 (λ e. omega arith))
+
+-- no event puts a number into the file that no register can hold
+interrupt-clean : (r : File) (c : Direction) (i : ℕ) → Clean r → Clean (interrupting r c i)
+unfolding interrupting withIntr
+interrupt-clean r Out i k = clean-set r 8 (raised (intrOf r Out) i) (omega arith) k
+interrupt-clean r In i k = clean-set r 7 (raised (intrOf r In) i) (omega arith) k
+
+bus-clean : (o : BusEvent) (r : File) → Clean r → Clean (busRaised o r)
+unfolding busRaised withIntrusb
+bus-clean o r k = clean-set r 6 (raised (intrusb r) (busBit o)) (omega arith) k
+
+waiting-clean : (r : File) (e n : ℕ) → Whole r → Clean r → Clean (waitingAt r e n)
+unfolding waitingAt
+waiting-clean r e n six k = clean-side r e Out (received n (sideAt r e Out)) six k
+
+arrival-clean : (r : File) (e n : ℕ) → Whole r → Clean r → Clean (arrived r e n)
+unfolding arrived waitingAt
+arrival-clean r e n six k = go (eqb e 0)
+  where
+    zero : Clean (withSide (waitingAt r 0 n) 0 In (unstalled (sideAt r 0 In)))
+    zero = clean-side (waitingAt r 0 n) 0 In (unstalled (sideAt r 0 In)) (keeps-length r 0 Out (received n (sideAt r 0 Out)) ∙ six) (waiting-clean r 0 n six k)
+
+    go : (b : Bool) → Clean (cond b (interrupting (withSide (waitingAt r 0 n) 0 In (unstalled (sideAt r 0 In))) In 0) (interrupting (waitingAt r e n) Out e))
+    go true = interrupt-clean (withSide (waitingAt r 0 n) 0 In (unstalled (sideAt r 0 In))) In 0 zero
+    go false = interrupt-clean (waitingAt r e n) Out e (waiting-clean r e n six k)
+
+pub clean : (o : Event) (r : File) → Whole r → Clean r → Clean (happens o r)
+unfolding collected busReset busSuspend busResume setupEnded missing
+clean (arrival f n) r six k = arrival-clean r f n six k
+clean (collection f) r six k = interrupt-clean _ In f (clean-side r f In (dropped true (sideAt r f In)) six k)
+clean reset r six k = bus-clean Reset r k
+clean suspend r six k = bus-clean Suspend r k
+clean resume r six k = bus-clean Resume r k
+clean setupend r six k = interrupt-clean (withSetupend r true) In 0 (clean-setupend r true six k)
+clean (miss f c) r six k = clean-side r f c (lapsed (sideAt r f c)) six k
+
+-- and neither does a read of an interrupt register
+pub usb-clean : (r : File) → Clean r → Clean (intrusbCleared r)
+unfolding intrusbCleared withIntrusb
+usb-clean r k = clean-set r 6 0 (omega arith) k
+
+pub word-clean : (r : File) (c : Direction) → Clean r → Clean (intrCleared r c)
+unfolding intrCleared withIntr
+word-clean r Out k = clean-set r 8 0 (omega arith) k
+word-clean r In k = clean-set r 7 0 (omega arith) k

@@ -7,19 +7,14 @@ use Rattle.laws.specs.Words.{raised}
 use Rattle.board.specs.declared.Direction.{Direction}
 use Rattle.board.specs.declared.Direction.the-variants.{Out, In}
 use Rattle.csr.specs.declared.Side.{Side}
-use Rattle.regs.specs.declared.Intrusb.{Intrusb}
-use Rattle.regs.specs.declared.Pending.{Pending}
-use Rattle.regs.specs.declared.Regs.{Regs}
-use Rattle.regs.specs.Registers.{sideAt, withSide, withPending, withSetupend}
+use Rattle.regs.specs.Registers.{File, sideAt, withSide, intrusb, withIntrusb, intrOf, withIntr, withSetupend}
 use Rattle.csr.specs.Control.{dropped}
+use Rattle.events.specs.declared.BusEvent.{BusEvent}
+use Rattle.events.specs.declared.BusEvent.the-variants.{Suspend, Resume, Reset}
 
 -- a pending interrupt more: transmit bits are raised for In, receive bits for Out
-abbrev pub raisedAt : Direction → ℕ → Pending → Pending
-raisedAt Out e p = record { usb = p .usb; tx = p .tx; rx = raised (p .rx) e }
-raisedAt In e p = record { usb = p .usb; tx = raised (p .tx) e; rx = p .rx }
-
-unfoldable pub interrupting : Regs → Direction → ℕ → Regs
-interrupting r d e = withPending r (raisedAt d e (r .pending))
+unfoldable pub interrupting : File → Direction → ℕ → File
+interrupting r d e = withIntr r d (raised (intrOf r d) e)
 
 -- a packet of n bytes waits at a receive side
 abbrev pub received : ℕ → Side → Side
@@ -32,48 +27,48 @@ abbrev pub lapsed : Side → Side
 lapsed s = record { ready = s .ready; missed = true; stall = s .stall; stalled = s .stalled; iso = s .iso; maxp = s .maxp; len = s .len }
 
 -- "arrival (sets RxPktRdy; raises the receive bit, for endpoint 0 transmit bit 0, and drops its SendStall)"
-unfoldable pub waitingAt : Regs → ℕ → ℕ → Regs
+unfoldable pub waitingAt : File → ℕ → ℕ → File
 waitingAt r e n = withSide r e Out (received n (sideAt r e Out))
 
-unfoldable pub arrived : Regs → ℕ → ℕ → Regs
+unfoldable pub arrived : File → ℕ → ℕ → File
 arrived r e n =
     cond (eqb e 0)
     (interrupting (withSide (waitingAt r 0 n) 0 In (unstalled (sideAt r 0 In))) In 0)
     (interrupting (waitingAt r e n) Out e)
 
 -- "collection (.. drops it, clears TxPktRdy, raises the transmit bit)"
-unfoldable pub collected : Regs → ℕ → Regs
+unfoldable pub collected : File → ℕ → File
 collected r e = interrupting (withSide r e In (dropped true (sideAt r e In))) In e
 
--- "bus reset, suspend, resume (each raises its own bit only)"
-abbrev pub withUsb : Pending → Intrusb → Pending
-withUsb p u = record { usb = u; tx = p .tx; rx = p .rx }
+-- "bus reset, suspend, resume (each raises its own bit only)": the bits follow the public MUSB layout of the bus interrupt register
+abbrev pub busBit : BusEvent → ℕ
+busBit Suspend = 0
+busBit Resume = 1
+busBit Reset = 2
 
-unfoldable pub busReset : Regs → Regs
-busReset r = withPending r (withUsb (r .pending) (record { suspend = r .pending .usb .suspend; resume = r .pending .usb .resume; reset = true }))
+unfoldable pub busRaised : BusEvent → File → File
+busRaised o r = withIntrusb r (raised (intrusb r) (busBit o))
 
-unfoldable pub busSuspend : Regs → Regs
-busSuspend r = withPending r (withUsb (r .pending) (record { suspend = true; resume = r .pending .usb .resume; reset = r .pending .usb .reset }))
+unfoldable pub busReset : File → File
+busReset r = busRaised Reset r
 
-unfoldable pub busResume : Regs → Regs
-busResume r = withPending r (withUsb (r .pending) (record { suspend = r .pending .usb .suspend; resume = true; reset = r .pending .usb .reset }))
+unfoldable pub busSuspend : File → File
+busSuspend r = busRaised Suspend r
+
+unfoldable pub busResume : File → File
+busResume r = busRaised Resume r
 
 -- "setup end (SetupEnd and transmit bit 0)"
-unfoldable pub setupEnded : Regs → Regs
+unfoldable pub setupEnded : File → File
 setupEnded r = interrupting (withSetupend r true) In 0
 
 -- "underrun, overrun (set UnderRun or OverRun, raise nothing)": of the transmit side, of the receive side
-unfoldable pub missing : Regs → ℕ → Direction → Regs
+unfoldable pub missing : File → ℕ → Direction → File
 missing r e d = withSide r e d (lapsed (sideAt r e d))
 
 -- "Interrupt registers clear when read."
-unfoldable pub intrusbCleared : Regs → Regs
-intrusbCleared r = withPending r (withUsb (r .pending) (record { suspend = false; resume = false; reset = false }))
+unfoldable pub intrusbCleared : File → File
+intrusbCleared r = withIntrusb r 0
 
-unfoldable pub intrCleared : Regs → Direction → Regs
-intrCleared r Out = withPending r (record { usb = r .pending .usb; tx = r .pending .tx; rx = 0 })
-intrCleared r In = withPending r (record { usb = r .pending .usb; tx = 0; rx = r .pending .rx })
-
-abbrev pub intrOf : Regs → Direction → ℕ
-intrOf r Out = r .pending .rx
-intrOf r In = r .pending .tx
+unfoldable pub intrCleared : File → Direction → File
+intrCleared r d = withIntr r d 0

@@ -1,18 +1,20 @@
 -- What the driver may know of a host event, whichever it is: one account of what each changes and what it leaves.
 -- Assumes nothing.
-use Prim.Native.Nat.{ℕ}
+use Prim.Native.Nat.{ℕ, _≤_}
 use mathlib.Core.Path.{_≡_}
 use mathlib.Core.Bool.{Bool, true, cond}
 use lib.Dec.{eqb}
-use lib.ListN.{length}
+use lib.ListN.{length, getD}
+use Rattle.laws.specs.Words.{raised}
 use Rattle.board.specs.declared.Direction.{Direction}
 use Rattle.board.specs.declared.Direction.the-variants.{Out, In}
 use Rattle.csr.specs.declared.Side.{Side}
-use Rattle.regs.specs.declared.Pending.{Pending}
-use Rattle.regs.specs.declared.Regs.{Regs}
+use Rattle.regs.specs.Registers as file
+use Rattle.regs.specs.Registers.{File}
 use Rattle.csr.specs.Registers.{towards}
 use Rattle.csr.specs.Control.{dropped}
-use Rattle.events.specs.Events.{arrived, collected, busReset, busSuspend, busResume, setupEnded, missing, received, unstalled, lapsed, raisedAt, withUsb}
+use Rattle.events.specs.declared.BusEvent.the-variants.{Suspend, Resume, Reset}
+use Rattle.events.specs.Events.{arrived, collected, busBit, busReset, busSuspend, busResume, setupEnded, missing, received, unstalled, lapsed}
 
 pub data Event : Type 0 where
   arrival : ℕ → ℕ → Event
@@ -23,7 +25,7 @@ pub data Event : Type 0 where
   setupend : Event
   miss : ℕ → Direction → Event
 
-abbrev pub happens : Event → Regs → Regs
+abbrev pub happens : Event → File → File
 happens (arrival e n) r = arrived r e n
 happens (collection e) r = collected r e
 happens reset r = busReset r
@@ -43,24 +45,36 @@ leaves resume e d s = s
 leaves setupend e d s = s
 leaves (miss f c) e d s = cond (eqb e f) (towards c d lapsed s) s
 
--- the interrupts that an event raises. "Enable registers hold back no interrupt": they are not asked.
-abbrev pub raises : Event → Pending → Pending
-raises (arrival f n) p = cond (eqb f 0) (raisedAt In 0 p) (raisedAt Out f p)
-raises (collection f) p = raisedAt In f p
-raises reset p = withUsb p (record { suspend = p .usb .suspend; resume = p .usb .resume; reset = true })
-raises suspend p = withUsb p (record { suspend = true; resume = p .usb .resume; reset = p .usb .reset })
-raises resume p = withUsb p (record { suspend = p .usb .suspend; resume = true; reset = p .usb .reset })
-raises setupend p = raisedAt In 0 p
-raises (miss f c) p = p
+-- the interrupts that an event raises: what it leaves of the bus interrupt register, that was p, and of the interrupt register of direction d.
+-- "Enable registers hold back no interrupt": they are not asked.
+abbrev pub raisesBus : Event → ℕ → ℕ
+raisesBus (arrival f n) p = p
+raisesBus (collection f) p = p
+raisesBus reset p = raised p (busBit Reset)
+raisesBus suspend p = raised p (busBit Suspend)
+raisesBus resume p = raised p (busBit Resume)
+raisesBus setupend p = p
+raisesBus (miss f c) p = p
 
--- the registers q after an event at the registers r
-pub record Kept (r q : Regs) : Type 0 where
-  pub board : q .board ≡ r .board
-  pub endpoints : length (q .eps) ≡ length (r .eps)
-  pub selected : q .index ≡ r .index
-  pub addressed : q .faddr ≡ r .faddr
+abbrev pub raises : Event → Direction → ℕ → ℕ
+raises (arrival f n) Out p = cond (eqb f 0) p (raised p f)
+raises (arrival f n) In p = cond (eqb f 0) (raised p 0) p
+raises (collection f) Out p = p
+raises (collection f) In p = raised p f
+raises reset d p = p
+raises suspend d p = p
+raises resume d p = p
+raises setupend Out p = p
+raises setupend In p = raised p 0
+raises (miss f c) d p = p
 
--- SetupEnd after an event; power and the enable registers stay
+-- the registers q after an event at the registers r: no register comes or goes
+pub record Kept (r q : File) : Type 0 where
+  pub whole : length q ≡ length r
+  pub selected : file.index q ≡ file.index r
+  pub addressed : file.faddr q ≡ file.faddr r
+
+-- SetupEnd after an event
 abbrev pub ends : Event → Bool → Bool
 ends (arrival e n) b = b
 ends (collection e) b = b
@@ -70,10 +84,10 @@ ends resume b = b
 ends setupend b = true
 ends (miss e d) b = b
 
-pub record Others (o : Event) (r q : Regs) : Type 0 where
-  pub ended : q .setupend ≡ ends o (r .setupend)
-  pub powered : q .power ≡ r .power
-  pub enable : q .enable ≡ r .enable
+-- power and the enable registers stay: the numbers 2 to 5 of the file
+pub record Others (o : Event) (r q : File) : Type 0 where
+  pub ended : file.setupend q ≡ ends o (file.setupend r)
+  pub number : (i : ℕ) → 2 ≤ i → i ≤ 5 → getD q i 0 ≡ getD r i 0
 
 -- the endpoint of an event is one of the record's
 abbrev pub at : Event → ℕ

@@ -1,196 +1,163 @@
-// What each host event does to the registers, and the interrupt registers, which clear when read.
+// What each host event does to the register file, and the interrupt registers, which clear when read.
 use board::Direction;
 use board::Span;
-use regs::Intrusb;
-use regs::Pending;
-use regs::Regs;
 ghost use mathlib.Core.Path.{_≡_};
 ghost use Prim.Native.Nat.{_+_, _≤_, _<_};
 ghost use lib.ListN.{length};
 ghost use Rattle.laws.specs.Lists.{pasted};
-ghost use Rattle.regs.specs.Registers.{sideAt};
-ghost use Rattle.events.specs.Events.{raisedAt, interrupting, waitingAt, arrived, collected, busReset, busSuspend, busResume, setupEnded, missing, intrusbCleared, intrCleared, intrOf};
+ghost use Rattle.regs.specs.Registers.{sideAt, intrusb, intrOf, withIntr};
+ghost use Rattle.events.specs.Events.{interrupting, waitingAt, arrived, collected, busBit, busRaised, setupEnded, missing, intrusbCleared, intrCleared};
 
 // Whether a packet waits at a side.
-pub fn waits(r: Regs, e: u8, d: Direction) -> bool
-    ensures { λ b. ⌜ b ≡ sideAt r e d .ready ⌝ }
+pub fn waits(w: &[u16; 46], e: u8, d: Direction) -> bool
+    ensures { λ b. ⌜ b ≡ sideAt (now (w .entry)) e d .ready ⌝ }
 {
-    let s = regs::side_at(r, e, d);
+    let s = regs::side_at(w, e as u16, d);
     s.ready
 }
 
 // The waiting packet's length.
-pub fn waiting_len(r: Regs, e: u8, d: Direction) -> u16
-    ensures { λ n. ⌜ n ≡ sideAt r e d .len ⌝ }
+pub fn waiting_len(w: &[u16; 46], e: u8, d: Direction) -> u16
+    ensures { λ n. ⌜ n ≡ sideAt (now (w .entry)) e d .len ⌝ }
 {
-    let s = regs::side_at(r, e, d);
+    let s = regs::side_at(w, e as u16, d);
     s.len
 }
 
-fn raised_at(d: Direction, e: u8, p: Pending) -> Pending
-    requires { ⌜ e < 16 ⌝ }
-    ensures { λ o. ⌜ o ≡ raisedAt d e p ⌝ }
+fn intr_of(w: &[u16; 46], d: Direction) -> u16
+    ensures { λ v. ⌜ v ≡ intrOf (now (w .entry)) d ⌝ }
 {
-    let u = p.usb;
+    match d {
+        Direction::Out => w[regs::INTRRX],
+        Direction::In => w[regs::INTRTX],
+    }
+}
+
+fn put_intr(w: &mut [u16; 46], d: Direction, v: u16)
+    ensures { λ _. ⌜ now (w .exit) ≡ withIntr (now (w .entry)) d v ⌝ }
+{
     match d {
         Direction::Out => {
-            let rx = laws::raise(p.rx, e);
-            Pending {
-                usb: u,
-                tx: p.tx,
-                rx: rx,
-            }
+            w[regs::INTRRX] = v;
         }
         Direction::In => {
-            let tx = laws::raise(p.tx, e);
-            Pending {
-                usb: u,
-                tx: tx,
-                rx: p.rx,
-            }
+            w[regs::INTRTX] = v;
         }
     }
 }
 
-fn interrupt(r: Regs, d: Direction, e: u8) -> Regs
+fn interrupt(w: &mut [u16; 46], d: Direction, e: u8)
     requires { ⌜ e < 16 ⌝ }
-    ensures { λ o. ⌜ o ≡ interrupting r d e ⌝ }
+    ensures { λ _. ⌜ now (w .exit) ≡ interrupting (now (w .entry)) d e ⌝ }
 {
-    let p = raised_at(d, e, r.pending);
-    let mut o = r;
-    o.pending = p;
-    o
+    let v = laws::raise(intr_of(w, d), e);
+    put_intr(w, d, v);
 }
 
-fn wait_at(r: Regs, e: u8, n: u16) -> Regs
-    ensures { λ o. ⌜ o ≡ waitingAt r e n ⌝ }
+fn wait_at(w: &mut [u16; 46], e: u8, n: u16)
+    ensures { λ _. ⌜ now (w .exit) ≡ waitingAt (now (w .entry)) e n ⌝ }
 {
-    let mut s = regs::side_at(r, e, Direction::Out);
+    let mut s = regs::side_at(w, e as u16, Direction::Out);
     s.ready = true;
     s.len = n;
-    regs::with_side(r, e, Direction::Out, s)
+    regs::put_side(w, e as u16, Direction::Out, s);
 }
 
-fn arrival_zero(r: Regs, n: u16) -> Regs
-    ensures { λ o. ⌜ o ≡ arrived r 0 n ⌝ }
+fn arrival_zero(w: &mut [u16; 46], n: u16)
+    ensures { λ _. ⌜ now (w .exit) ≡ arrived (now (w .entry)) 0 n ⌝ }
 {
-    let mut tx = regs::side_at(r, 0, Direction::In);
+    let mut tx = regs::side_at(w, 0, Direction::In);
     tx.stall = false;
-    let q = wait_at(r, 0, n);
-    let s = regs::with_side(q, 0, Direction::In, tx);
-    interrupt(s, Direction::In, 0)
+    wait_at(w, 0, n);
+    regs::put_side(w, 0, Direction::In, tx);
+    interrupt(w, Direction::In, 0);
 }
 
-fn arrival(r: Regs, e: u8, n: u16) -> Regs
+fn arrival(w: &mut [u16; 46], e: u8, n: u16)
     requires { ⌜ e < 16 ⌝ }
-    ensures { λ o. ⌜ o ≡ arrived r e n ⌝ }
+    ensures { λ _. ⌜ now (w .exit) ≡ arrived (now (w .entry)) e n ⌝ }
 {
     if e == 0 {
-        return arrival_zero(r, n);
+        arrival_zero(w, n);
+        return;
     }
-    interrupt(wait_at(r, e, n), Direction::Out, e)
+    wait_at(w, e, n);
+    interrupt(w, Direction::Out, e);
 }
 
 // A packet arrives: its bytes in the area, its ready bit, its interrupt.
-pub fn arrive(r: Regs, fifo: &mut [u8], e: u8, area: Span, bytes: &[u8]) -> Regs
+pub fn arrive(w: &mut [u16; 46], e: u8, bytes: &[u8], area: Span, fifo: &mut [u8])
     requires { ⌜ (e < 16) × (length (now bytes) < 65536) × (length (now bytes) ≤ area .size) × (area .start + area .size ≤ length (now fifo)) ⌝ }
-    ensures { λ o. ⌜ (o ≡ arrived r e (length (now (bytes .entry)))) × (now (fifo .exit) ≡ pasted (now (fifo .entry)) (area .start) (now (bytes .entry))) ⌝ }
+    ensures { λ _. ⌜ (now (w .exit) ≡ arrived (now (w .entry)) e (length (now (bytes .entry)))) × (now (fifo .exit) ≡ pasted (now (fifo .entry)) (area .start) (now (bytes .entry))) ⌝ }
 {
     fifo::put_bytes(fifo, area, bytes);
-    arrival(r, e, bytes.len() as u16)
+    arrival(w, e, bytes.len() as u16);
 }
 
 // The host has taken the packet; its place and length are asked before.
-pub fn collect(r: Regs, e: u8) -> Regs
+pub fn collect(w: &mut [u16; 46], e: u8)
     requires { ⌜ e < 16 ⌝ }
-    ensures { λ o. ⌜ o ≡ collected r e ⌝ }
+    ensures { λ _. ⌜ now (w .exit) ≡ collected (now (w .entry)) e ⌝ }
 {
-    let s = csr::drop_packet(true, regs::side_at(r, e, Direction::In));
-    interrupt(regs::with_side(r, e, Direction::In, s), Direction::In, e)
+    let s = csr::drop_packet(true, regs::side_at(w, e as u16, Direction::In));
+    regs::put_side(w, e as u16, Direction::In, s);
+    interrupt(w, Direction::In, e);
 }
 
-pub fn bus_reset(r: Regs) -> Regs
-    ensures { λ o. ⌜ o ≡ busReset r ⌝ }
-{
-    let mut o = r;
-    o.pending.usb.reset = true;
-    o
+// What happens on the bus: each has its bit of the bus interrupt register.
+pub enum BusEvent {
+    Suspend,
+    Resume,
+    Reset,
 }
 
-pub fn bus_suspend(r: Regs) -> Regs
-    ensures { λ o. ⌜ o ≡ busSuspend r ⌝ }
+pub fn bus_bit(o: BusEvent) -> u8
+    ensures { λ i. ⌜ (i ≡ busBit o) × (i < 16) ⌝ }
 {
-    let mut o = r;
-    o.pending.usb.suspend = true;
-    o
+    match o {
+        BusEvent::Suspend => 0,
+        BusEvent::Resume => 1,
+        BusEvent::Reset => 2,
+    }
 }
 
-pub fn bus_resume(r: Regs) -> Regs
-    ensures { λ o. ⌜ o ≡ busResume r ⌝ }
+pub fn bus(w: &mut [u16; 46], o: BusEvent)
+    ensures { λ _. ⌜ now (w .exit) ≡ busRaised o (now (w .entry)) ⌝ }
 {
-    let mut o = r;
-    o.pending.usb.resume = true;
-    o
+    let v = laws::raise(w[regs::INTRUSB], bus_bit(o));
+    w[regs::INTRUSB] = v;
 }
 
-pub fn setup_end(r: Regs) -> Regs
-    ensures { λ o. ⌜ o ≡ setupEnded r ⌝ }
+pub fn setup_end(w: &mut [u16; 46])
+    ensures { λ _. ⌜ now (w .exit) ≡ setupEnded (now (w .entry)) ⌝ }
 {
-    let mut s = r;
-    s.setupend = true;
-    interrupt(s, Direction::In, 0)
+    w[regs::SETUPEND] = 1;
+    interrupt(w, Direction::In, 0);
 }
 
 // Underrun of a transmit side, overrun of a receive side.
-pub fn miss(r: Regs, e: u8, d: Direction) -> Regs
-    ensures { λ o. ⌜ o ≡ missing r e d ⌝ }
+pub fn miss(w: &mut [u16; 46], e: u8, d: Direction)
+    ensures { λ _. ⌜ now (w .exit) ≡ missing (now (w .entry)) e d ⌝ }
 {
-    let mut s = regs::side_at(r, e, d);
+    let mut s = regs::side_at(w, e as u16, d);
     s.missed = true;
-    regs::with_side(r, e, d, s)
+    regs::put_side(w, e as u16, d, s);
 }
 
-// The bus interrupt register as it was, and the registers after the read.
-pub struct ReadUsb {
-    pub regs: Regs,
-    pub usb: Intrusb,
+// The bus interrupt register as it was; it is clear after the read.
+pub fn read_intrusb(w: &mut [u16; 46]) -> u16
+    ensures { λ v. ⌜ (v ≡ intrusb (now (w .entry))) × (now (w .exit) ≡ intrusbCleared (now (w .entry))) ⌝ }
+{
+    let v = w[regs::INTRUSB];
+    w[regs::INTRUSB] = 0;
+    v
 }
 
 // An interrupt register of a direction, likewise.
-pub struct ReadWord {
-    pub regs: Regs,
-    pub word: u16,
-}
-
-pub fn read_intrusb(r: Regs) -> ReadUsb
-    ensures { λ o. ⌜ (o .usb ≡ r .pending .usb) × (o .regs ≡ intrusbCleared r) ⌝ }
+pub fn read_intr(w: &mut [u16; 46], d: Direction) -> u16
+    ensures { λ v. ⌜ (v ≡ intrOf (now (w .entry)) d) × (now (w .exit) ≡ intrCleared (now (w .entry)) d) ⌝ }
 {
-    let u = r.pending.usb;
-    let mut o = r;
-    o.pending.usb.suspend = false;
-    o.pending.usb.resume = false;
-    o.pending.usb.reset = false;
-    ReadUsb { regs: o, usb: u }
-}
-
-pub fn read_intr(r: Regs, d: Direction) -> ReadWord
-    ensures { λ o. ⌜ (o .word ≡ intrOf r d) × (o .regs ≡ intrCleared r d) ⌝ }
-{
-    let mut o = r;
-    match d {
-        Direction::Out => {
-            o.pending.rx = 0;
-            return ReadWord {
-                regs: o,
-                word: r.pending.rx,
-            };
-        }
-        Direction::In => {
-            o.pending.tx = 0;
-            return ReadWord {
-                regs: o,
-                word: r.pending.tx,
-            };
-        }
-    }
+    let v = intr_of(w, d);
+    put_intr(w, d, 0);
+    v
 }

@@ -1,6 +1,7 @@
 // A record from the 96 numbers that a detail report prints of it, each in four bytes, low byte first: where the comparison of single
 // calls begins. Nothing is promised of what is built: a number that is read wrongly shows in the record that the comparison prints.
 use board::Board;
+use board::Direction;
 use control_state::ControlState;
 use control_state::ControlStateEnum;
 use csr::Side;
@@ -9,12 +10,8 @@ use endpoints::EndpointData;
 use endpoints::EndpointType;
 use record::Flags;
 use record::Record;
-use regs::Enable;
-use regs::Ep;
-use regs::Intrusb;
-use regs::Pending;
 use regs::Regs;
-ghost use Prim.Native.Nat.{_≤_, _<_};
+ghost use Prim.Native.Nat.{_+_, _≤_, _<_};
 
 fn wide(x: u8) -> u32
     ensures { λ r. ⌜ r < 256 ⌝ }
@@ -42,16 +39,56 @@ fn word(h: &[u8], i: usize) -> u16
     (long(h, i) % 65536) as u16
 }
 
-fn small(h: &[u8], i: usize) -> u8
-    requires { ⌜ i < 96 ⌝ }
-{
-    (long(h, i) % 256) as u8
-}
-
 fn truth(h: &[u8], i: usize) -> bool
     requires { ⌜ i < 96 ⌝ }
 {
     long(h, i) == 1
+}
+
+// The registers that are there once.
+fn put_chip(w: &mut [u16; 46], h: &[u8]) {
+    w[regs::FADDR] = word(h, 0);
+    w[regs::POWER] = word(h, 1);
+    w[regs::INDEX] = word(h, 2);
+    w[regs::INTRTXE] = word(h, 3);
+    w[regs::INTRRXE] = word(h, 4);
+    w[regs::INTRUSBE] = word(h, 5);
+    w[regs::INTRUSB] = word(h, 6);
+    w[regs::INTRTX] = word(h, 7);
+    w[regs::INTRRX] = word(h, 8);
+}
+
+// Endpoint 0: its bits stand in CSR0L.
+fn put_zero(w: &mut [u16; 46], h: &[u8]) {
+    let v = word(h, 9);
+    let mut tx = csr::no_side();
+    tx.ready = laws::has_bit(v, 1);
+    tx.stall = laws::has_bit(v, 5);
+    tx.stalled = laws::has_bit(v, 2);
+    tx.len = word(h, 16);
+    let mut rx = csr::no_side();
+    rx.ready = laws::has_bit(v, 0);
+    rx.len = word(h, 17);
+    regs::put_side(w, 0, Direction::In, tx);
+    regs::put_side(w, 0, Direction::Out, rx);
+    w[regs::SETUPEND] = csr::weight(laws::has_bit(v, 4), 1);
+}
+
+// A side of another endpoint, from where its TXCSRL or RXCSRL stands: every other number of it is the other side's. SentStall follows
+// SendStall, whose place the two registers do not share.
+fn side(h: &[u8], i: usize, stall: u8) -> Side
+    requires { ⌜ (i + 6 < 96) × (stall + 1 < 16) ⌝ }
+{
+    let v = word(h, i);
+    Side {
+        ready: laws::has_bit(v, 0),
+        missed: laws::has_bit(v, 2),
+        stall: laws::has_bit(v, stall),
+        stalled: laws::has_bit(v, stall + 1),
+        iso: laws::has_bit(word(h, i + 2), 6),
+        maxp: word(h, i + 4),
+        len: word(h, i + 6),
+    }
 }
 
 // The numbers of endpoint e begin here.
@@ -62,124 +99,24 @@ fn base(e: usize) -> usize
     10 + 13 * e
 }
 
-// CSR0L, TXCSRL and RXCSRL have their bits at other places.
-fn zero_in(h: &[u8]) -> Side {
-    let v = word(h, 9);
-    Side {
-        ready: laws::has_bit(v, 1),
-        missed: false,
-        stall: laws::has_bit(v, 5),
-        stalled: laws::has_bit(v, 2),
-        iso: false,
-        maxp: 0,
-        len: word(h, 16),
-    }
-}
-
-fn zero_out(h: &[u8]) -> Side {
-    let v = word(h, 9);
-    Side {
-        ready: laws::has_bit(v, 0),
-        missed: false,
-        stall: false,
-        stalled: false,
-        iso: false,
-        maxp: 0,
-        len: word(h, 17),
-    }
-}
-
-fn side_in(h: &[u8], e: usize) -> Side
+fn put_sides(w: &mut [u16; 46], h: &[u8], e: u16)
     requires { ⌜ e < 6 ⌝ }
 {
-    let b = base(e);
-    let v = word(h, b);
-    Side {
-        ready: laws::has_bit(v, 0),
-        missed: laws::has_bit(v, 2),
-        stall: laws::has_bit(v, 4),
-        stalled: laws::has_bit(v, 5),
-        iso: laws::has_bit(word(h, b + 2), 6),
-        maxp: word(h, b + 4),
-        len: word(h, b + 6),
-    }
+    let b = base(e as usize);
+    regs::put_side(w, e, Direction::In, side(h, b, 4));
+    regs::put_side(w, e, Direction::Out, side(h, b + 1, 5));
 }
 
-fn side_out(h: &[u8], e: usize) -> Side
-    requires { ⌜ e < 6 ⌝ }
-{
-    let b = base(e);
-    let v = word(h, b + 1);
-    Side {
-        ready: laws::has_bit(v, 0),
-        missed: laws::has_bit(v, 2),
-        stall: laws::has_bit(v, 5),
-        stalled: laws::has_bit(v, 6),
-        iso: laws::has_bit(word(h, b + 3), 6),
-        maxp: word(h, b + 5),
-        len: word(h, b + 7),
-    }
-}
-
-fn pair(h: &[u8], e: usize) -> Ep
-    requires { ⌜ e < 6 ⌝ }
-{
-    let i = side_in(h, e);
-    let o = side_out(h, e);
-    Ep { tx: i, rx: o }
-}
-
-fn zero(h: &[u8]) -> Ep {
-    let i = zero_in(h);
-    let o = zero_out(h);
-    Ep { tx: i, rx: o }
-}
-
-fn pending(h: &[u8]) -> Pending {
-    let v = word(h, 6);
-    Pending {
-        usb: Intrusb {
-            suspend: laws::has_bit(v, 0),
-            resume: laws::has_bit(v, 1),
-            reset: laws::has_bit(v, 2),
-        },
-        tx: word(h, 7),
-        rx: word(h, 8),
-    }
-}
-
-fn enable(h: &[u8]) -> Enable {
-    Enable {
-        usb: small(h, 5),
-        tx: word(h, 3),
-        rx: word(h, 4),
-    }
-}
-
-fn eps(h: &[u8]) -> [Ep; 6] {
-    let a = zero(h);
-    let b = pair(h, 1);
-    let c = pair(h, 2);
-    let d = pair(h, 3);
-    let e = pair(h, 4);
-    let f = pair(h, 5);
-    [a, b, c, d, e, f]
-}
-
-fn regs_from(h: &[u8]) -> Regs {
-    let m = enable(h);
-    let p = pending(h);
-    let all = eps(h);
-    Regs {
-        board: Board::Display,
-        index: small(h, 2),
-        faddr: small(h, 0),
-        power: small(h, 1),
-        enable: m,
-        pending: p,
-        setupend: laws::has_bit(word(h, 9), 4),
-        eps: all,
-    }
+fn words(h: &[u8]) -> [u16; 46] {
+    let mut w = [0u16; 46];
+    put_chip(&mut w, h);
+    put_zero(&mut w, h);
+    put_sides(&mut w, h, 1);
+    put_sides(&mut w, h, 2);
+    put_sides(&mut w, h, 3);
+    put_sides(&mut w, h, 4);
+    put_sides(&mut w, h, 5);
+    w
 }
 
 fn type_from(n: u32) -> EndpointType {
@@ -228,34 +165,27 @@ fn state_from(n: u32) -> ControlStateEnum {
     }
 }
 
-fn control(h: &[u8]) -> ControlState {
-    let s = state_from(long(h, 88));
-    ControlState {
-        state: s,
-        tx_len: long(h, 89),
-    }
-}
-
-fn flags(h: &[u8]) -> Flags {
-    Flags {
-        reset: truth(h, 90),
-        suspend: truth(h, 91),
-        resume: truth(h, 92),
-        ep0: truth(h, 93),
-        ep_tx: word(h, 94),
-        ep_rx: word(h, 95),
-    }
-}
-
 pub fn record_from(h: &[u8]) -> Record {
-    let r = regs_from(h);
+    let w = words(h);
     let es = endpoints(h);
-    let c = control(h);
-    let f = flags(h);
+    let s = state_from(long(h, 88));
     Record {
-        regs: r,
+        regs: Regs {
+            board: Board::Display,
+            words: w,
+        },
         endpoints: es,
-        control_state: c,
-        irq: f,
+        control_state: ControlState {
+            state: s,
+            tx_len: long(h, 89),
+        },
+        irq: Flags {
+            reset: truth(h, 90),
+            suspend: truth(h, 91),
+            resume: truth(h, 92),
+            ep0: truth(h, 93),
+            ep_tx: word(h, 94),
+            ep_rx: word(h, 95),
+        },
     }
 }

@@ -13,16 +13,15 @@ use Rattle.laws.specs.Words.{bit}
 use Rattle.laws.proofs.Words.{bit-raised}
 use Rattle.board.specs.declared.Board.{Board}
 use Rattle.board.specs.declared.Direction.the-variants.{Out}
-use Rattle.regs.specs.declared.Pending.{Pending}
-use Rattle.regs.specs.Registers.{sideAt}
+use Rattle.regs.specs.Registers.{Whole, sideAt, intrOf}
 use Rattle.events.specs.Events.{arrived}
 use Rattle.events.specs.Promise as events
 use Rattle.events.proofs.Promises.{pending}
 use Rattle.record.specs.declared.Record.{Record}
-use Rattle.record.specs.declared.Entry.{Entry}
-use Rattle.record.specs.declared.Entry.the-variants.{Clear, Refused}
-use Rattle.record.specs.Record.{recordSound, entryBy, endpointsOf, areaOf, needOf}
-use Rattle.host.specs.Host.{Arrival, done, unlessArrived, entryAt, arrivalBy, arrivalRefusal, arrivalCall}
+use Rattle.record.specs.declared.Admission.{Admission}
+use Rattle.record.specs.declared.Admission.the-variants.{Clear, Refused}
+use Rattle.record.specs.Record.{recordSound, admissionBy, endpointsOf, areaOf, needOf}
+use Rattle.host.specs.Host.{Arrival, done, unlessArrived, entryAt, entryIn, arrivalBy, arrivalRefusalIn, arrivalRefusal, arrivalCall}
 use Rattle.host.proofs.Laws.{never, admitted}
 use Rattle.rounds.specs.Machine.{arrivesAt}
 use Rattle.rounds.proofs.Lawful.{Does, unchanged}
@@ -30,7 +29,7 @@ use Rattle.history.specs.Driver.{arrivalEvent, waiting}
 use Rattle.history.proofs.Look.{look, low}
 
 -- the tests that an answered arrival has passed
-passed : (t : Entry) (long waits : Bool) → arrivalBy t long waits ≡ Clear → (t ≡ Clear) × (waits ≡ false)
+passed : (t : Admission) (long waits : Bool) → arrivalBy t long waits ≡ Clear → (t ≡ Clear) × (waits ≡ false)
 passed (Refused x) long waits p = never p
 passed Clear true waits p = never p
 passed Clear false true p = never p
@@ -38,8 +37,8 @@ passed Clear false false p = (refl, refl)
 
 module _ (k : Record) (e n m : ℕ) (clear : arrivalRefusal k e n m ≡ Clear) where
   tests : (entryAt k e m ≡ Clear) × (waiting k e ≡ false)
-  unfolding arrivalRefusal
-  tests = passed (entryAt k e m) (ltb (areaOf k e Out .size) n) (sideAt (k .regs) e Out .ready) clear
+  unfolding arrivalRefusal arrivalRefusalIn needOf recordSound endpointsOf areaOf
+  tests = passed (entryAt k e m) (ltb (areaOf k e Out .size) n) (sideAt (k .regs .words) e Out .ready) clear
 
   none-waited : waiting k e ≡ false
   none-waited = tests .1
@@ -48,22 +47,22 @@ module _ (k : Record) (e n m : ℕ) (clear : arrivalRefusal k e n m ≡ Clear) w
   there = admitted k e m (tests .0) .below
 
 -- the receive bits that an arrival leaves; that of endpoint 0 raises none
-raised-bits : (e n j : ℕ) (p : Pending) → e < 6 → 1 ≤ j → j < 6 → bit (events.raises (events.arrival e n) p .rx) j ≡ (eqb j e || bit (p .rx) j)
+raised-bits : (e n j p : ℕ) → e < 6 → 1 ≤ j → j < 6 → bit (events.raises (events.arrival e n) Out p) j ≡ (eqb j e || bit p j)
 raised-bits e n j p he h hj = go (ℕ-discrete e 0)
   where
-    go : Dec (e ≡ 0) → bit (events.raises (events.arrival e n) p .rx) j ≡ (eqb j e || bit (p .rx) j)
+    go : Dec (e ≡ 0) → bit (events.raises (events.arrival e n) Out p) j ≡ (eqb j e || bit p j)
     go (yes z) = rw (eq-eqb e 0 z, ne-eqb j e (λ q. omega arith))
-    go (no z) = rw (ne-eqb e 0 z) (bit-raised (p .rx) e j he hj)
+    go (no z) = rw (ne-eqb e 0 z) (bit-raised p e j he hj)
 
 module _ (k : Record) (e : ℕ) (bytes f : List ℕ) where
-  abbrev refusal : Entry
+  abbrev refusal : Admission
   refusal = arrivalRefusal k e (length bytes) (length f)
 
   -- the outcome by its refusal
-  abbrev arrivalOf : Entry → Arrival
-  arrivalOf x = unlessArrived x k f (record { event = done k (arrived (k .regs) e (length bytes)); fifo = pasted f (areaOf k e Out .start) bytes })
+  abbrev arrivalOf : Admission → Arrival
+  arrivalOf x = unlessArrived x k f (record { event = done k (arrived (k .regs .words) e (length bytes)); fifo = pasted f (areaOf k e Out .start) bytes })
 
-  arrival-is : (x : Entry) → refusal ≡ x → arrivalCall k e bytes f ≡ arrivalOf x
+  arrival-is : (x : Admission) → refusal ≡ x → arrivalCall k e bytes f ≡ arrivalOf x
   unfolding arrivalCall
   arrival-is x p = ap arrivalOf p
 
@@ -71,7 +70,7 @@ module _ (k : Record) (e : ℕ) (bytes f : List ℕ) where
   pub one-arrival : (i : ℕ) → T (waiting k i) → T (not (arrivesAt i (arrivalEvent (arrivalCall k e bytes f .event .answer) e)))
   one-arrival i w = subst (λ (o : Arrival). T (not (arrivesAt i (arrivalEvent (o .event .answer) e)))) (sym (arrival-is refusal refl)) (go refusal refl)
     where
-      go : (x : Entry) → refusal ≡ x → T (not (arrivesAt i (arrivalEvent (arrivalOf x .event .answer) e)))
+      go : (x : Admission) → refusal ≡ x → T (not (arrivesAt i (arrivalEvent (arrivalOf x .event .answer) e)))
       go (Refused x) p = tt
       go Clear p =
           not-T (eqb e i)
@@ -80,7 +79,7 @@ module _ (k : Record) (e : ℕ) (bytes f : List ℕ) where
   -- an arrival that fits, where none waits, lent enough, is answered
   pub arrival-answered : recordSound k ≡ true → e < endpointsOf k → length bytes ≤ areaOf k e Out .size → needOf k ≤ length f → T (not (waiting k e))
       → T (arrivesAt e (arrivalEvent (arrivalCall k e bytes f .event .answer) e))
-  unfolding arrivalRefusal
+  unfolding arrivalRefusal arrivalRefusalIn needOf recordSound endpointsOf areaOf
   arrival-answered passes there fits lent none =
       subst (λ (o : Arrival). T (arrivesAt e (arrivalEvent (o .event .answer) e))) (sym (arrival-is Clear clear)) (eqb-refl e)
     where
@@ -90,22 +89,22 @@ module _ (k : Record) (e : ℕ) (bytes f : List ℕ) where
 
       clear : refusal ≡ Clear
       clear = λ i.
-          arrivalBy (entryBy (le-ltb (length f) (needOf k) lent i) (passes i) (lt-leb (endpointsOf k) e there i))
+          arrivalBy (admissionBy (le-ltb (length f) (needOf k) lent i) (passes i) (lt-leb (endpointsOf k) e there i))
           (le-ltb (areaOf k e Out .size) (length bytes) fits i) (down (waiting k e) none i)
 
   -- what an arrival does, refused or not
-  module _ (b : Board) where
+  module _ (b : Board) (six : Whole (k .regs .words)) where
     abbrev ArrivalDoes : Arrival → Type 0
     ArrivalDoes o = Does (look b) k (arrivalEvent (o .event .answer) e) (o .event .«record»)
 
-    by-refusal : (x : Entry) → refusal ≡ x → ArrivalDoes (arrivalOf x)
+    by-refusal : (x : Admission) → refusal ≡ x → ArrivalDoes (arrivalOf x)
     by-refusal (Refused x) p = unchanged (look b) k k refl refl refl refl refl
     by-refusal Clear p =
         record {
           flag = λ j ep. refl;
           due = λ j ep.
-              ap (λ (w : Pending). bit (w .rx) j) (pending (events.arrival e (length bytes)) (k .regs))
-              ∙ raised-bits e (length bytes) j (k .regs .pending) (there k e (length bytes) (length f) p) (ep .low) (low b j ep);
+              ap (λ (w : ℕ). bit w j) (pending (events.arrival e (length bytes)) (k .regs .words) Out six)
+              ∙ raised-bits e (length bytes) j (intrOf (k .regs .words) Out) (there k e (length bytes) (length f) p) (ep .low) (low b j ep);
           sent = λ j ep. refl;
           bus = record { up = omega arith; asleep = refl };
         }

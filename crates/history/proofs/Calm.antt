@@ -1,14 +1,13 @@
 -- The flags after every operation but poll and on_interrupt: as they were, except that an empty write in NodataPhase raises the transmit
 -- flag of endpoint 0. Assumes nothing.
-use mathlib.Core.Path.{_≡_, refl}
-use mathlib.Core.Bool.{Bool, true, false, not, cond}
+use mathlib.Core.Path.{_≡_, refl, sym, ap, subst, _∙_}
+use mathlib.Core.Bool.{Bool, true, false, cond}
 use mathlib.Core.List.{List}
 use Prim.Native.Nat.{ℕ, _<_}
 use lib.Dec.{eqb, ltb, leb}
 use lib.ListN.{length}
 use Rattle.board.specs.declared.Direction.{Direction}
 use Rattle.csr.specs.declared.Csr0lSet.the-variants.{ServicedRxPktRdy}
-use Rattle.regs.specs.Registers.{withIndex}
 use Rattle.stores.specs.Stores.{Log, log, writeIndex, writeFaddr, modifyCsr0l}
 use Rattle.common_impl.specs.Common.{busInit, isStalled}
 use Rattle.control_state.specs.declared.ControlState.{ControlState}
@@ -18,11 +17,12 @@ use Rattle.control_state.specs.Control.{decreased}
 use Rattle.endpoints.specs.declared.Wanted.{Wanted}
 use Rattle.endpoints.specs.Endpoints.{Ask}
 use Rattle.record.specs.declared.Record.{Record}
-use Rattle.record.specs.declared.Entry.{Entry}
-use Rattle.record.specs.declared.Entry.the-variants.{Clear, Refused}
-use Rattle.record.specs.Record.{entryBy, recordSound, endpointsOf}
-use Rattle.peek.specs.Peek.{txPktRdy, rxPktRdy}
-use Rattle.peek.specs.Peek as peek
+use Rattle.record.specs.declared.Admission.{Admission}
+use Rattle.record.specs.declared.Admission.the-variants.{Clear, Refused}
+use Rattle.record.specs.Record.{admissionBy, recordSound}
+use Rattle.peek.specs.declared.Verdict.{Verdict}
+use Rattle.peek.specs.declared.Verdict.the-variants as verdict
+use Rattle.peek.specs.Peek.{After, blocked, ended}
 use Rattle.usb_device_alloc.specs.Calls.{allocEp, unlessAllocated, allocEpCall}
 use Rattle.usb_device_impl.specs.Calls.{unless, stored, begun, short, beyond, busInitCall, enableCall, idled, addressEntry, addressCall}
 use Rattle.usb_device_reset.specs.Calls.{resetStores, resetCall}
@@ -33,30 +33,32 @@ use Rattle.usb_device_write.specs.Write as write-write
 use Rattle.read_tests.specs.Read as read
 use Rattle.read_zero.specs.Read as zero-read
 use Rattle.usb_device_read.specs.Read as read-read
+use Rattle.usb_device_write.proofs.Answers.{call-is}
+use Rattle.usb_device_read.proofs.Answers.{tested, by-tests}
 use Rattle.history.proofs.Flags.{Alike, same, tx-raised}
 
 module _ (k : Record) where
   -- the simple calls change registers and control state, allocation the endpoints
-  called : (x : Entry) (l : List ℕ) (c : ControlState) (g : Log) → unless x k l (stored k c g) .call .«record» .irq ≡ k .irq
+  called : (x : Admission) (l : List ℕ) (c : ControlState) (g : Log) → unless x k l (stored k c g) .call .«record» .irq ≡ k .irq
   called (Refused x) l c g = refl
   called Clear l c g = refl
 
-  told : (x : Entry) (l : List ℕ) (b : Bool) (g : Log) → unlessTold x k l (toldOf k b g) .call .«record» .irq ≡ k .irq
+  told : (x : Admission) (l : List ℕ) (b : Bool) (g : Log) → unlessTold x k l (toldOf k b g) .call .«record» .irq ≡ k .irq
   told (Refused x) l b g = refl
   told Clear l b g = refl
 
-  allocated : (x : Entry) (q : Ask) (w : Wanted) → unlessAllocated x k (allocEp k q w) .«record» .irq ≡ k .irq
+  allocated : (x : Admission) (q : Ask) (w : Wanted) → unlessAllocated x k (allocEp k q w) .«record» .irq ≡ k .irq
   unfolding allocEp
   allocated (Refused x) q w = refl
   allocated Clear q w = refl
 
   pub alloc-ep-call : (q : Ask) (w : Wanted) → allocEpCall k q w .«record» .irq ≡ k .irq
   unfolding allocEpCall
-  alloc-ep-call q w = allocated (entryBy false (recordSound k) false) q w
+  alloc-ep-call q w = allocated (admissionBy false (recordSound k) false) q w
 
   module _ (l : List ℕ) where
-    abbrev first : Bool → Entry
-    first beyond = entryBy (short l) (recordSound k) beyond
+    abbrev first : Bool → Admission
+    first beyond = admissionBy (short l) (recordSound k) beyond
 
     pub bus-init-call : busInitCall k l .call .«record» .irq ≡ k .irq
     unfolding busInitCall
@@ -83,80 +85,74 @@ module _ (k : Record) where
     is-stalled-call e d = told (first (beyond k e)) l (isStalled d e (begun k l)) (writeIndex e (begun k l))
 
   -- read: of endpoint 0 by its state, of another endpoint, or refused
-  abbrev ReadKeeps : zero-read.Ran → Type 0
-  ReadKeeps o = o .result .«record» .irq ≡ k .irq
+  abbrev ReadKeeps : After → Type 0
+  ReadKeeps o = o .irq ≡ k .irq
 
-  read-either : (t : Bool) (x y : zero-read.Ran) → ReadKeeps x → ReadKeeps y → ReadKeeps (cond t x y)
+  read-either : (t : Bool) (x y : After) → ReadKeeps x → ReadKeeps y → ReadKeeps (cond t x y)
   read-either true x y p q = p
   read-either false x y p q = q
 
-  read-zero : (s : ControlStateEnum) (b : List ℕ) (n : ℕ) (g : Log) → ReadKeeps (zero-read.zeroBy s b n k g)
-  unfolding zero-read.setUp zero-read.dataOut zero-read.ended
-  read-zero Setup b n g = read-either (eqb (zero-read.wLength b) 0) _ _ refl refl
-  read-zero DataOut b n g = read-either (ltb n (zero-read.rxSize k)) _ _ refl refl
-  read-zero Idle b n g = refl
-  read-zero DataIn b n g = refl
-  read-zero Accepted b n g = refl
-  read-zero NodataPhase b n g = refl
+  read-zero : (s : ControlStateEnum) (b : List ℕ) (n size : ℕ) (c : ControlState) (g : Log) → ReadKeeps (zero-read.zeroBy s b n size c (k .irq) g)
+  unfolding zero-read.setUp zero-read.dataOut ended
+  read-zero Setup b n size c g = read-either (eqb (zero-read.wLength b) 0) _ _ refl refl
+  read-zero DataOut b n size c g = read-either (ltb n size) _ _ refl refl
+  read-zero Idle b n size c g = refl
+  read-zero DataIn b n size c g = refl
+  read-zero Accepted b n size c g = refl
+  read-zero NodataPhase b n size c g = refl
 
-  read-taken : (e : ℕ) (b : List ℕ) (n : ℕ) (g : Log) → ReadKeeps (read-read.got k e b n g)
+  read-taken : (e : ℕ) (b : List ℕ) (n size : ℕ) (c : ControlState) (g : Log) → ReadKeeps (read-read.got e b n size c (k .irq) g)
   unfolding read-read.got zero-read.readZero read-read.readOther
-  read-taken e b n g =
-      read-either (eqb e 0) (zero-read.readZero b n k g) (read-read.readOther n k g) (read-zero (k .«control_state» .state) b n (modifyCsr0l ServicedRxPktRdy g)) refl
+  read-taken e b n size c g =
+      read-either (eqb e 0) (zero-read.readZero b n size c (k .irq) g) (read-read.readOther c (k .irq) g)
+      (read-zero (c .state) b n size c (modifyCsr0l ServicedRxPktRdy g)) refl
 
-  module _ (e : ℕ) (f l b : List ℕ) where
-    read-by : (x : Entry) (unready unreadable unset : Bool)
-        → read-read.readBy (read.testsBy x (read.ownTests unready unreadable unset)) k e f l b .result .«record» .irq ≡ k .irq
-    unfolding read-read.taken zero-read.blocked
-    read-by (Refused x) a c d = refl
-    read-by Clear true c d = refl
-    read-by Clear false true d = refl
-    read-by Clear false false true = refl
-    read-by Clear false false false = read-taken e (read-read.copied k e f b) (read.waiting k e) (writeIndex e (log (k .regs) l 0))
+  module _ (e : ℕ) (b f l : List ℕ) where
+    read-by : (v : Verdict) → tested k e b f l v .result .«record» .irq ≡ k .irq
+    unfolding read-read.taken blocked
+    read-by verdict.Clear = read-taken e _ _ (zero-read.rxSize k) (k .«control_state») (writeIndex e (log (k .regs .words) l 0))
+    read-by verdict.Blocked = refl
+    read-by (verdict.Refused x) = refl
 
-    pub read-call : read-read.readCall k e f l b .result .«record» .irq ≡ k .irq
-    unfolding read-read.readCall read.tests read.ownTestsAt
-    read-call =
-        read-by (entryBy (peek.short k (length f) (length l)) (recordSound k) (leb (endpointsOf k) e)) (not (rxPktRdy e (withIndex (k .regs) e)))
-        (read.notReadable k e) (read.notSetup k e (length b))
+    pub read-call : read-read.readCall k e b f l .result .«record» .irq ≡ k .irq
+    read-call = ap (λ (o : read-read.ReadOutcome). o .result .«record» .irq) (by-tests k e b f l) ∙ read-by (read.tests k e (length b) (length f) (length l))
 
   -- write, likewise; in NodataPhase it raises the flag
-  abbrev WriteKeeps : zero-write.Ran → Type 0
-  WriteKeeps o = Alike (k .irq) (o .result .«record» .irq)
+  abbrev WriteKeeps : After → Type 0
+  WriteKeeps o = Alike (k .irq) (o .irq)
 
-  write-either : (t : Bool) (x y : zero-write.Ran) → WriteKeeps x → WriteKeeps y → WriteKeeps (cond t x y)
+  write-either : (t : Bool) (x y : After) → WriteKeeps x → WriteKeeps y → WriteKeeps (cond t x y)
   write-either true x y p q = p
   write-either false x y p q = q
 
   module _ (small : k .irq .«ep_rx» < 64) where
-    write-zero : (s : ControlStateEnum) (n : ℕ) (g : Log) → WriteKeeps (zero-write.sentZero s n k g)
-    unfolding zero-write.nodataPhase zero-write.accepted zero-write.sentDataIn zero-write.dataIn zero-write.ended
-    write-zero NodataPhase n g = tx-raised (k .irq) small
-    write-zero DataIn n g =
-        write-either (eqb (decreased (k .«control_state») n .«tx_len») 0) _ _ (same (k .irq) small)
-        (write-either (ltb n (zero-write.txSize k)) _ _ (same (k .irq) small) (same (k .irq) small))
-    write-zero Idle n g = same (k .irq) small
-    write-zero Setup n g = same (k .irq) small
-    write-zero DataOut n g = same (k .irq) small
-    write-zero Accepted n g = same (k .irq) small
+    write-zero : (s : ControlStateEnum) (n t : ℕ) (c : ControlState) (g : Log) → WriteKeeps (zero-write.sentZero s n t c (k .irq) g)
+    unfolding zero-write.nodataPhase zero-write.accepted zero-write.sentDataIn zero-write.dataIn ended
+    write-zero NodataPhase n t c g = tx-raised (k .irq) small
+    write-zero DataIn n t c g =
+        write-either (eqb (decreased c n .«tx_len») 0) _ _ (same (k .irq) small) (write-either (ltb n t) _ _ (same (k .irq) small) (same (k .irq) small))
+    write-zero Idle n t c g = same (k .irq) small
+    write-zero Setup n t c g = same (k .irq) small
+    write-zero DataOut n t c g = same (k .irq) small
+    write-zero Accepted n t c g = same (k .irq) small
 
-    write-taken : (e n : ℕ) (g : Log) → WriteKeeps (write-write.sent k e n g)
+    write-taken : (e n t : ℕ) (c : ControlState) (g : Log) → WriteKeeps (write-write.sent e n t c (k .irq) g)
     unfolding write-write.sent write-write.sentOther
-    write-taken e n g =
-        write-either (eqb e 0) (zero-write.sentZero (k .«control_state» .state) n k g) (write-write.sentOther n k g) (write-zero (k .«control_state» .state) n g) (same (k .irq) small)
+    write-taken e n t c g =
+        write-either (eqb e 0) (zero-write.sentZero (c .state) n t c (k .irq) g) (write-write.sentOther c (k .irq) g) (write-zero (c .state) n t c g) (same (k .irq) small)
 
     module _ (e : ℕ) (b f l : List ℕ) where
-      write-by : (x : Entry) (unready long untaken : Bool)
-          → Alike (k .irq) (write-write.writeBy (write.testsBy x (write.ownTests unready long untaken)) k e b f l .result .«record» .irq)
-      unfolding write-write.taken zero-write.blocked
-      write-by (Refused x) a c d = same (k .irq) small
-      write-by Clear true c d = same (k .irq) small
-      write-by Clear false true d = same (k .irq) small
-      write-by Clear false false true = same (k .irq) small
-      write-by Clear false false false = write-taken e (length b) (write-write.loaded e (length b) (log (k .regs) l 0))
+      abbrev ran-by : Verdict → write-write.WriteOutcome
+      ran-by v = write-write.outcome k (write-write.writeBy v (k .regs .board) (k .«control_state») (k .irq) (zero-write.txSize k) e b f (log (k .regs .words) l 0))
+
+      write-by : (v : Verdict) → Alike (k .irq) (ran-by v .result .«record» .irq)
+      unfolding write-write.taken blocked
+      write-by verdict.Clear =
+          write-taken e (length b) (zero-write.txSize k) (k .«control_state») (write-write.loaded e (length b) (log (k .regs .words) l 0))
+      write-by verdict.Blocked = same (k .irq) small
+      write-by (verdict.Refused x) = same (k .irq) small
 
       pub write-call : Alike (k .irq) (write-write.writeCall k e b f l .result .«record» .irq)
-      unfolding write-write.writeCall write.tests write.ownTestsAt
       write-call =
-          write-by (entryBy (peek.short k (length f) (length l)) (recordSound k) (leb (endpointsOf k) e)) (txPktRdy e (withIndex (k .regs) e))
-          (write.tooLong k e (length b)) (write.notWritable k e (length b))
+          subst (λ (o : write-write.WriteOutcome). Alike (k .irq) (o .result .«record» .irq)) (sym (call-is k e b f l))
+          (write-by (write.tests k e (length b) (length f) (length l)))

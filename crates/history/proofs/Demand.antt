@@ -8,8 +8,9 @@ use lib.Dec.{T}
 use Rattle.laws.specs.Words.{bit}
 use Rattle.laws.proofs.Words.{bit-zero}
 use Rattle.board.specs.declared.Board.{Board}
-use Rattle.regs.specs.declared.Pending.{Pending}
-use Rattle.regs.proofs.Sides.{fresh-rest}
+use Rattle.board.specs.declared.Direction.the-variants.{Out}
+use Rattle.regs.specs.Registers.{File, intrOf}
+use Rattle.regs.proofs.Sides.{fresh-words, fresh-zero}
 use Rattle.record.specs.declared.Record.{Record}
 use Rattle.record.specs.Record.{freshRecord, recordSound}
 use Rattle.record.proofs.Passing.{sound-record-passes}
@@ -30,14 +31,14 @@ use Rattle.history.proofs.Steps.{does, one-place}
 module _ (b : Board) where
   pub kept-fresh : Kept b (freshRecord b)
   unfolding freshRecord
-  kept-fresh = record { good = good-fresh b; board = fresh-rest b .0 }
+  kept-fresh = record { good = good-fresh b; board = fresh-words b .1 }
 
   pub kept-step : (k : Record) (o : Op) → Kept b k → Kept b (step k o)
-  kept-step k o g = record { good = good-step k o (g .good); board = same-board k o ∙ g .board }
+  kept-step k o g = record { good = good-step k o (g .good); board = same-board k o (g .good .six) ∙ g .board }
 
-  none-due : (j : ℕ) → bit (freshRecord b .regs .pending .rx) j ≡ false
-  unfolding freshRecord
-  none-due j = ap (λ (p : Pending). bit (p .rx) j) (fresh-rest b .3) ∙ bit-zero j
+  none-due : (j : ℕ) → bit (intrOf (freshRecord b .regs .words) Out) j ≡ false
+  unfolding freshRecord intrOf
+  none-due j = ap (λ (w : File). bit (intrOf w Out) j) (fresh-words b .0) ∙ ap (λ (n : ℕ). bit n j) (fresh-zero 8) ∙ bit-zero j
 
   pub lawful : Lawful (driver b) (Kept b) (look b)
   unfolding freshRecord

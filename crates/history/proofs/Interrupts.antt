@@ -9,7 +9,7 @@ use Rattle.laws.proofs.Words.{bit-zero}
 use Rattle.board.specs.declared.Board.{Board}
 use Rattle.board.specs.Boards.{rows, at-most-six}
 use Rattle.record.specs.declared.Record.{Record}
-use Rattle.record.specs.Record.{endpointsOf}
+use Rattle.record.specs.Record.{endpointsIn, endpointsOf}
 use Rattle.record.proofs.Passing.{sound-record-passes}
 use Rattle.usb_device_interrupt.specs.declared.OnInterrupt.{OnInterrupt}
 use Rattle.usb_device_interrupt.specs.Interrupt.{interrupted, interruptBy, interruptCall}
@@ -29,12 +29,12 @@ module _ (b : Board) (k : Record) (kept : Kept b k) where
   InterruptDoes o = Does (look b) k (interruptEvent (o .answer) k) (o .«record»)
 
   taken-in : InterruptDoes (interruptBy true k)
-  unfolding interrupted endpointsOf
+  unfolding interrupted endpointsIn endpointsOf
   taken-in =
-      let t = takes (length (rows (k .regs .board))) (k .regs) (k .irq) (at-most-six (k .regs .board)) in
+      let t = takes (length (rows (k .regs .board))) (k .regs .words) (k .irq) (kept .good .six) (at-most-six (k .regs .board)) in
       record {
         flag = λ j ep. t .rx j (ep .low) (there j ep);
-        due = λ j ep. ap (λ (w : ℕ). bit w j) (none-due (k .regs)) ∙ bit-zero j;
+        due = λ j ep. ap (λ (w : ℕ). bit w j) (none-due (k .regs .words) (kept .good .six)) ∙ bit-zero j;
         sent = λ j ep. t .tx j (ep .low) (there j ep);
         asleep = t .suspend;
       }

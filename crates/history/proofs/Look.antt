@@ -11,6 +11,8 @@ use Rattle.board.specs.declared.Board.{Board}
 use Rattle.board.specs.declared.Board.the-variants.{Display}
 use Rattle.board.specs.declared.Row.{Row}
 use Rattle.board.specs.Boards.{rows, rows-display, at-most-six, at-least-one}
+use Rattle.board.specs.declared.Direction.the-variants.{Out}
+use Rattle.regs.specs.Registers.{intrOf}
 use Rattle.record.specs.declared.Record.{Record}
 use Rattle.calls.specs.Kept.{Good}
 use Rattle.rounds.specs.Machine.{count}
@@ -28,13 +30,13 @@ module _ (b : Board) where
   look =
       record {
         flag = λ k. bit (k .irq .«ep_rx»);
-        due = λ k. bit (k .regs .pending .rx);
+        due = λ k. bit (intrOf (k .regs .words) Out);
         sent = λ k. bit (k .irq .«ep_tx»);
         up = λ k. count (k .irq .reset) + count (k .irq .resume);
         asleep = λ k. k .irq .suspend;
       }
 
-  -- it passes reply 16's test, has six endpoints' registers, and is of the board that it was made for
+  -- it passes reply 16's test, has a whole register file, and is of the board that it was made for
   pub record Kept (k : Record) : Type 0 where
     pub good : Good k
     pub board : k .regs .board ≡ b
@@ -54,7 +56,7 @@ module _ (b : Board) where
     small = le-trans receive-bound (pow-mono (at-most-six b))
 
   -- a step that changes no flag but endpoint 0's and takes no receive interrupt
-  pub calm : (k t : Record) → Alike (k .irq) (t .irq) → t .regs .pending .rx ≡ k .regs .pending .rx → Quiet look k t
+  pub calm : (k t : Record) → Alike (k .irq) (t .irq) → intrOf (t .regs .words) Out ≡ intrOf (k .regs .words) Out → Quiet look k t
   calm k t a due =
       record {
         receive = record { flag = λ j ep. a .rx j (ep .low) (low j ep); due = λ j ep. ap (λ (w : ℕ). bit w j) due };

@@ -13,20 +13,21 @@ use Rattle.laws.proofs.Words.{bit-zero, bit-below}
 use Rattle.board.specs.declared.Board.{Board}
 use Rattle.board.specs.declared.Direction.the-variants.{Out}
 use Rattle.board.specs.Boards.{rows, at-most-six, at-least-one}
-use Rattle.regs.specs.Registers.{sideAt}
+use Rattle.regs.specs.Registers.{sideAt, intrOf}
 use Rattle.stores.specs.Stores.{Log, log}
 use Rattle.overrun.specs.Common.{checkOverrun}
 use Rattle.record.specs.declared.Flags.{Flags}
 use Rattle.record.specs.declared.Record.{Record}
 use Rattle.record.specs.declared.Refusal.the-variants.{TooLittleLent}
-use Rattle.record.specs.declared.Entry.the-variants as entry
-use Rattle.record.specs.Record.{entryBy}
+use Rattle.record.specs.declared.Admission.{Admission}
+use Rattle.record.specs.declared.Admission.the-variants as admission
+use Rattle.record.specs.Record.{admissionBy, recordSound, endpointsIn, endpointsOf}
 use Rattle.record.proofs.Passing.{sound-record-passes}
 use Rattle.poll_zero.specs.Round.{withTx, withRx, endpointZero, acceptStep}
 use Rattle.poll_walk.specs.Round.{walked}
 use Rattle.usb_device_poll.specs.Round.{masks, told}
 use Rattle.usb_device_poll.specs.declared.PollResult.the-variants.{None, Data}
-use Rattle.usb_device_poll.specs.Poll.{PollOutcome, ended, walkedOn, acceptedOn, roundOut, pollBy, pollLogged, pollServed, pollWhen, pollCall}
+use Rattle.usb_device_poll.specs.Poll.{PollOutcome, outcomeOf, ended, walkedOn, acceptedOn, roundOut, pollBy, pollLogged, pollServed, pollWhen, pollAdmitted, pollCall}
 use Rattle.poll_walk.proofs.Drained.{leftBy, none-new, ready-stays, false-naming}
 use Rattle.rounds.specs.Machine.{Event, count, isAnsweredPoll}
 use Rattle.rounds.specs.Machine as rounds
@@ -52,10 +53,10 @@ told-names out sent setup = go (eqb sent 0) (eqb out 0) setup refl refl
     go true true false p q = λ i. rounds.round (none-named out (eqb-true out 0 q) i) (none-named sent (eqb-true sent 0 p) i)
 
 module _ (b : Board) (k : Record) (kept : Kept b k) where
-  none-waits : (e : ℕ) → sideAt (k .regs) e Out .ready ≡ false → sideAt (k .regs) e Out .len ≡ 0
+  none-waits : (e : ℕ) → sideAt (k .regs .words) e Out .ready ≡ false → sideAt (k .regs .words) e Out .len ≡ 0
   none-waits e = kept .good .sound .regs .side e Out .none
 
-  at-start : (l : List ℕ) → Waits (k .regs) none-waits (log (k .regs) l 0)
+  at-start : (l : List ℕ) → Waits (k .regs .words) none-waits (log (k .regs .words) l 0)
   at-start l =
       record {
         six = kept .good .six;
@@ -63,8 +64,12 @@ module _ (b : Board) (k : Record) (kept : Kept b k) where
         packet = λ e. record { ready = refl; len = refl };
       }
 
+  counted : endpointsOf k ≤ 6
+  unfolding endpointsIn endpointsOf
+  counted = at-most-six (k .regs .board)
+
   abbrev ready : ℕ → Bool
-  ready e = sideAt (k .regs) e Out .ready
+  ready e = sideAt (k .regs .words) e Out .ready
 
   -- the end of a round, with the flags f as the walk found them
   module _ (f : Flags) (a : Alike (k .irq) f) (r : k .irq .reset ≡ false) (m : k .irq .resume ≡ false) where
@@ -77,7 +82,7 @@ module _ (b : Board) (k : Record) (kept : Kept b k) where
     flagged : (j : ℕ) → 1 ≤ j → j < 6 → T (bit (f .«ep_rx») j) → T (bit (k .irq .«ep_rx») j)
     flagged j h l t = subst T (a .rx j h l) t
 
-    rounded : (t : Record) → t .irq ≡ withRx (withTx f 0) left → t .regs .pending .rx ≡ k .regs .pending .rx
+    rounded : (t : Record) → t .irq ≡ withRx (withTx f 0) left → intrOf (t .regs .words) Out ≡ intrOf (k .regs .words) Out
         → Rounds (look b) (bit left) (bit (f .«ep_tx»)) k t
     rounded t is due =
         record {
@@ -114,33 +119,39 @@ module _ (b : Board) (k : Record) (kept : Kept b k) where
 
   module _ (l : List ℕ) where
     abbrev checked : Log
-    checked = checkOverrun (log (k .regs) l 0)
+    checked = checkOverrun (endpointsOf k) (log (k .regs .words) l 0)
 
     -- what a poll does, of any outcome
     abbrev PollDoes : PollOutcome → Type 0
     PollDoes o = Does (look b) k (pollEvent (o .result .answer)) (o .result .«record»)
 
+    abbrev inRound : PollOutcome
+    inRound = outcomeOf k (roundOut checked (k .«control_state») (k .irq))
+
+    abbrev byFlags : Bool → Bool → Bool → PollOutcome
+    byFlags r m u = outcomeOf k (pollBy r m u checked (k .«control_state») (k .irq))
+
     abbrev SameDue : PollOutcome → Type 0
-    SameDue o = o .result .«record» .regs .pending .rx ≡ k .regs .pending .rx
+    SameDue o = intrOf (o .result .«record» .regs .words) Out ≡ intrOf (k .regs .words) Out
 
     -- endpoint 0's step, the Accepted step, and what the walk then leaves
-    in-round : k .irq .reset ≡ false → k .irq .resume ≡ false → SameDue (roundOut k checked) → PollDoes (roundOut k checked)
+    in-round : k .irq .reset ≡ false → k .irq .resume ≡ false → SameDue inRound → PollDoes inRound
     unfolding roundOut acceptedOn walkedOn ended
     in-round r m due =
         let o = endpointZero checked (k .«control_state») (k .irq) in
         let z = zero-step checked (k .«control_state») (k .irq) (small b k kept) in
         let f = acceptStep (o .control) (o .irq) .irq in
         let a = then z (accept-step (o .control) (o .irq) (z .small)) in
-        let w = zero-served (k .regs) none-waits (k .«control_state») (k .irq) checked (overrun-checked (k .regs) none-waits (log (k .regs) l 0) (at-start l)) in
-        let left = walk-leaves (k .regs) none-waits (f .«ep_rx») (o .log) w in
-        let t = roundOut k checked .result .«record» in
+        let w = zero-served (k .regs .words) none-waits (k .«control_state») (k .irq) checked (overrun-checked (k .regs .words) none-waits (endpointsOf k) (log (k .regs .words) l 0) counted (at-start l)) in
+        let left = walk-leaves (k .regs .words) none-waits (f .«ep_rx») (o .log) w in
+        let t = inRound .result .«record» in
         subst (λ (v : Event). Does (look b) k v t)
         (sym (told-names (walked (f .«ep_rx») (o .log) .out) (f .«ep_tx») (o .setup) ∙ ap (λ (x : ℕ). rounds.round (bit x) (bit (f .«ep_tx»))) left))
         (rounded f a r m t (ap (withRx (withTx f 0)) left) due)
 
     -- a pause puts down one of the flags of reset and resume, or the suspend flag is up
     paused : (t : Record) → t .irq .«ep_rx» ≡ k .irq .«ep_rx» → t .irq .«ep_tx» ≡ k .irq .«ep_tx» → t .irq .suspend ≡ k .irq .suspend
-        → t .regs .pending .rx ≡ k .regs .pending .rx → look b .up t ≤ look b .up k → (k .irq .suspend ≡ false → look b .up t < look b .up k)
+        → intrOf (t .regs .words) Out ≡ intrOf (k .regs .words) Out → look b .up t ≤ look b .up k → (k .irq .suspend ≡ false → look b .up t < look b .up k)
         → Pauses (look b) k t
     paused t rx tx asleep due up less =
         record {
@@ -153,26 +164,29 @@ module _ (b : Board) (k : Record) (kept : Kept b k) where
           less = less;
         }
 
+    abbrev whenTested : Admission → PollOutcome
+    whenTested t = outcomeOf k (pollWhen t (k .regs .board) (log (k .regs .words) l 0) (k .«control_state») (k .irq))
+
     -- the outcome by what is tested: too short a list, then the flags of reset, resume and suspend
     abbrev pollOf : Bool → Bool → Bool → Bool → PollOutcome
-    pollOf true r m u = pollWhen (entry.Refused TooLittleLent) k l
-    pollOf false r m u = pollBy r m u k checked
+    pollOf true r m u = whenTested (admission.Refused TooLittleLent)
+    pollOf false r m u = byFlags r m u
 
     poll-is : (short r m u : Bool) → ltb (length l) 384 ≡ short → k .irq .reset ≡ r → k .irq .resume ≡ m → k .irq .suspend ≡ u
         → pollCall k l ≡ pollOf short r m u
-    unfolding pollCall pollServed pollLogged
-    poll-is true r m u es er em eu = λ i. pollWhen (entryBy (es i) (sound-record-passes k (kept .good .sound) i) false) k l
+    unfolding pollCall pollAdmitted pollServed pollLogged recordSound endpointsOf
+    poll-is true r m u es er em eu = λ i. whenTested (admissionBy (es i) (sound-record-passes k (kept .good .sound) i) false)
     poll-is false r m u es er em eu =
-        (λ i. pollWhen (entryBy (es i) (sound-record-passes k (kept .good .sound) i) false) k l) ∙ (λ i. pollBy (er i) (em i) (eu i) k checked)
+        (λ i. whenTested (admissionBy (es i) (sound-record-passes k (kept .good .sound) i) false)) ∙ (λ i. byFlags (er i) (em i) (eu i))
 
     by-tests : (short r m u : Bool) → k .irq .reset ≡ r → k .irq .resume ≡ m → k .irq .suspend ≡ u → SameDue (pollOf short r m u) → PollDoes (pollOf short r m u)
     by-tests true r m u er em eu due = unchanged (look b) k k refl refl refl refl refl
     by-tests false true m u er em eu due =
-        let c = ap count er in paused (pollBy true m u k checked .result .«record») refl refl refl due (omega (arith, c)) (λ n. omega (arith, c))
+        let c = ap count er in paused (byFlags true m u .result .«record») refl refl refl due (omega (arith, c)) (λ n. omega (arith, c))
     by-tests false false true u er em eu due =
-        let c = ap count em in paused (pollBy false true u k checked .result .«record») refl refl refl due (omega (arith, c)) (λ n. omega (arith, c))
+        let c = ap count em in paused (byFlags false true u .result .«record») refl refl refl due (omega (arith, c)) (λ n. omega (arith, c))
     by-tests false false false true er em eu due =
-        paused (pollBy false false true k checked .result .«record») refl refl refl due (omega arith) (λ n. absurd (true≢false (sym eu ∙ n)))
+        paused (byFlags false false true .result .«record») refl refl refl due (omega arith) (λ n. absurd (true≢false (sym eu ∙ n)))
     by-tests false false false false er em eu due = in-round er em due
 
     -- no store of a poll touches the interrupt registers: `due` is what is known of every call that stores

@@ -8,21 +8,19 @@ use native.Mathlib.Nat.{le-refl}
 use native.Mathlib.Omega.{arith}
 use native.Mathlib.Decide.{ℕ-discrete}
 use lib.Dec.{eqb, lit<}
-use lib.ListN.{length}
 use borrow.Author.Tests.{eq-eqb, ne-eqb}
-use Rattle.board.specs.Boards.{rows, at-most-six}
 use Rattle.board.specs.declared.Direction.the-variants.{Out}
 use Rattle.csr.specs.declared.Side.{Side}
-use Rattle.regs.specs.declared.Regs.{Regs}
 use Rattle.csr.specs.declared.Csr0l.{Csr0l}
 use Rattle.csr.specs.declared.Csr0lSet.the-variants.{ServicedSetupEnd}
 use Rattle.csr.specs.declared.TxcsrlSet.the-variants.{NoUnderRun}
 use Rattle.csr.specs.declared.RxcsrlSet.the-variants.{NoOverRun}
-use Rattle.regs.specs.Registers.{Whole, sideAt, chosen, withIndex}
+use Rattle.regs.specs.Registers as file
+use Rattle.regs.specs.Registers.{File, Whole, sideAt, chosen}
 use Rattle.regs.specs.Control.{csr0lRead, count0, txcsrlRead, rxcsrlRead}
 use Rattle.csr.specs.Control.{csr0lSet, txcsrlSet, rxcsrlOf, rxcsrlSet, rxStored}
 use Rattle.csr.specs.Sound.{SideOk}
-use Rattle.regs.proofs.Sides.{by-eps}
+use Rattle.regs.proofs.Readings.{reselected}
 use Rattle.csr.proofs.Modified.{rx-repaired}
 use Rattle.regs.proofs.Modified.{zero-still-waits}
 use Rattle.stores.specs.Stores.{Log, writeIndex, modifyCsr0l, modifyTxcsrl, modifyRxcsrl}
@@ -41,7 +39,7 @@ use Rattle.poll_walk.specs.Round.{readyAt, walked}
 use Rattle.poll_walk.proofs.Drained.{leftBy, walked-left}
 
 -- what endpoint 0's step stores to CSR0L
-abbrev setupEndServiced : Regs → Csr0l
+abbrev setupEndServiced : File → Csr0l
 setupEndServiced r = csr0lSet ServicedSetupEnd (csr0lRead r)
 
 -- a side with the same packet waiting, or none as before
@@ -56,20 +54,20 @@ equal : {s t : Side} → t ≡ s → SamePacket s t
 equal p = record { ready = ap (λ (x : Side). x .ready) p; len = ap (λ (x : Side). x .len) p }
 
 -- r: the registers before the poll; of each receive side, what reply 16 asks of a side with nothing waiting
-module _ (r : Regs) (none : (e : ℕ) → sideAt r e Out .ready ≡ false → sideAt r e Out .len ≡ 0) where
+module _ (r : File) (none : (e : ℕ) → sideAt r e Out .ready ≡ false → sideAt r e Out .len ≡ 0) where
   -- every endpoint has the packet that waited in r
   pub record Waits (h : Log) : Type 0 where
     pub six : Whole (h .regs)
-    pub low : h .regs .index < 6
+    pub low : file.index (h .regs) < 6
     pub packet : (e : ℕ) → SamePacket (sideAt r e Out) (sideAt (h .regs) e Out)
 
   -- a store that leaves the receive sides' packets
-  keeps : (o : Store) (h : Log) → Waits h → selects o (h .regs .index) < 6
-      → ((e : ℕ) → SamePacket (sideAt (h .regs) e Out) (leaves o (h .regs .index) e Out (sideAt (h .regs) e Out))) → Waits (does o h)
+  keeps : (o : Store) (h : Log) → Waits h → selects o (file.index (h .regs)) < 6
+      → ((e : ℕ) → SamePacket (sideAt (h .regs) e Out) (leaves o (file.index (h .regs)) e Out (sideAt (h .regs) e Out))) → Waits (does o h)
   keeps o h w low side =
-      let k = rest o h in
+      let k = rest o h (w .six) in
       record {
-        six = k .endpoints ∙ w .six;
+        six = k .whole ∙ w .six;
         low = omega (arith, k .selected, low);
         packet = λ e.
             let p = sides o h e Out (w .six) (w .low) in
@@ -94,7 +92,7 @@ module _ (r : Regs) (none : (e : ℕ) → sideAt r e Out .ready ≡ false → si
       go : (b : Bool) → Waits (cond b (modifyTxcsrl NoUnderRun h) h)
       go true =
           rw (modify-txcsrl NoUnderRun h)
-          (keeps (txcsrl (txcsrlSet NoUnderRun (txcsrlRead (h .regs)))) h w (w .low) (λ e. either (sideAt (h .regs) e Out) (eqb e (h .regs .index))))
+          (keeps (txcsrl (txcsrlSet NoUnderRun (txcsrlRead (h .regs)))) h w (w .low) (λ e. either (sideAt (h .regs) e Out) (eqb e (file.index (h .regs)))))
       go false = w
 
   -- a repaired overrun keeps the packet, for one that waits is written as it was read
@@ -108,15 +106,15 @@ module _ (r : Regs) (none : (e : ℕ) → sideAt r e Out .ready ≡ false → si
       repairs : (s t : Side) → SideOk (s .len) s → t ≡ s → SamePacket s (rxStored (rxcsrlSet NoOverRun (rxcsrlOf t)) s)
       repairs s t k p = rw p (let q = rx-repaired (s .len) s k in record { ready = ap (λ (x : Side). x .ready) q; len = ap (λ (x : Side). x .len) q })
 
-      side : (e : ℕ) → Dec (e ≡ h .regs .index)
-          → SamePacket (sideAt (h .regs) e Out) (leaves (rxcsrl (rxcsrlSet NoOverRun (rxcsrlRead (h .regs)))) (h .regs .index) e Out (sideAt (h .regs) e Out))
-      side e (yes p) = rw (eq-eqb e (h .regs .index) p) (repairs (sideAt (h .regs) e Out) (chosen (h .regs) Out) (ok e) (ap (λ (i : ℕ). sideAt (h .regs) i Out) (sym p)))
-      side e (no n) = rw (ne-eqb e (h .regs .index) n) (same (sideAt (h .regs) e Out))
+      side : (e : ℕ) → Dec (e ≡ file.index (h .regs))
+          → SamePacket (sideAt (h .regs) e Out) (leaves (rxcsrl (rxcsrlSet NoOverRun (rxcsrlRead (h .regs)))) (file.index (h .regs)) e Out (sideAt (h .regs) e Out))
+      side e (yes p) = rw (eq-eqb e (file.index (h .regs)) p) (repairs (sideAt (h .regs) e Out) (chosen (h .regs) Out) (ok e) (ap (λ (i : ℕ). sideAt (h .regs) i Out) (sym p)))
+      side e (no n) = rw (ne-eqb e (file.index (h .regs)) n) (same (sideAt (h .regs) e Out))
 
       go : (b : Bool) → Waits (cond b (modifyRxcsrl NoOverRun h) h)
       go true =
           rw (modify-rxcsrl NoOverRun h)
-          (keeps (rxcsrl (rxcsrlSet NoOverRun (rxcsrlRead (h .regs)))) h w (w .low) (λ e. side e (ℕ-discrete e (h .regs .index))))
+          (keeps (rxcsrl (rxcsrlSet NoOverRun (rxcsrlRead (h .regs)))) h w (w .low) (λ e. side e (ℕ-discrete e (file.index (h .regs)))))
       go false = w
 
   all-repaired : (m i : ℕ) (h : Log) → i + m ≤ 6 → Waits h → Waits (foldl repaired h (numbers i m))
@@ -124,9 +122,9 @@ module _ (r : Regs) (none : (e : ℕ) → sideAt r e Out .ready ≡ false → si
   all-repaired zero i h low w = w
   all-repaired (suc m) i h low w = all-repaired m (suc i) (repaired h i) (omega arith) (over _ (under _ (indexed i h (omega arith) w)))
 
-  pub overrun-checked : (h : Log) → Waits h → Waits (checkOverrun h)
+  pub overrun-checked : (n : ℕ) (h : Log) → n ≤ 6 → Waits h → Waits (checkOverrun n h)
   unfolding checkOverrun repairedBelow
-  overrun-checked h w = all-repaired (length (rows (h .regs .board)) - 1) 1 h (omega (arith, at-most-six (h .regs .board))) w
+  overrun-checked n h low w = all-repaired (n - 1) 1 h (omega arith) w
 
   -- endpoint 0's step: its only store besides the selection services a setup end
   serviced : (h : Log) → Waits h → Waits (modifyCsr0l ServicedSetupEnd h)
@@ -134,7 +132,7 @@ module _ (r : Regs) (none : (e : ℕ) → sideAt r e Out .ready ≡ false → si
       rw (modify-csr0l ServicedSetupEnd h) (keeps (csr0l (setupEndServiced (h .regs))) h w (w .low) (λ e. side e (ℕ-discrete e 0)))
     where
       side : (e : ℕ) → Dec (e ≡ 0)
-          → SamePacket (sideAt (h .regs) e Out) (leaves (csr0l (setupEndServiced (h .regs))) (h .regs .index) e Out (sideAt (h .regs) e Out))
+          → SamePacket (sideAt (h .regs) e Out) (leaves (csr0l (setupEndServiced (h .regs))) (file.index (h .regs)) e Out (sideAt (h .regs) e Out))
       side e (yes p) = rw (eq-eqb e 0 p) (rw p (equal (zero-still-waits (h .regs))))
       side e (no n) = rw (ne-eqb e 0 n) (same (sideAt (h .regs) e Out))
 
@@ -170,7 +168,7 @@ module _ (r : Regs) (none : (e : ℕ) → sideAt r e Out .ready ≡ false → si
   Known h = (e : ℕ) → sideAt (h .regs) e Out .ready ≡ sideAt r e Out .ready
 
   known : (e : ℕ) (h : Log) → Known h → Known (writeIndex e h)
-  known e h k i = ap (λ (q : Regs). sideAt q i Out .ready) (index-selects e h) ∙ ap (λ (s : Side). s .ready) (by-eps (withIndex (h .regs) e) (h .regs) i Out refl) ∙ k i
+  known e h k i = ap (λ (q : File). sideAt q i Out .ready) (index-selects e h) ∙ ap (λ (s : Side). s .ready) (reselected (h .regs) e i Out) ∙ k i
 
   reads : (e : ℕ) (h : Log) → Known h → readyAt e (writeIndex e h .regs) ≡ sideAt r e Out .ready
   unfolding readyAt rxPktRdy

@@ -12,23 +12,24 @@ use Rattle.board.specs.declared.Board.the-variants.{Display}
 use Rattle.board.specs.declared.Direction.the-variants.{Out, In}
 use Rattle.board.specs.Table.{areaAt, total}
 use Rattle.board.specs.Boards.{rows, display, rows-display}
-use Rattle.regs.specs.declared.Regs.{Regs}
-use Rattle.regs.specs.Registers.{sideAt, withIndex}
+use Rattle.regs.specs.Registers.{File, sideAt}
 use Rattle.stores.specs.Stores.{log}
 use Rattle.events.specs.Events as events
 use Rattle.overrun.specs.Common.{repairedBelow, checkOverrun}
 use Rattle.record.specs.declared.Record.{Record}
-use Rattle.record.specs.declared.Entry.{Entry}
-use Rattle.record.specs.declared.Entry.the-variants.{Clear, Refused}
-use Rattle.record.specs.Record.{freshRecord, recordSound, entryBy, areaOf, needOf, endpointsOf}
+use Rattle.record.specs.declared.Admission.{Admission}
+use Rattle.record.specs.declared.Admission.the-variants.{Clear, Refused}
+use Rattle.record.specs.Record.{freshRecord, recordSound, admissionBy, areaIn, areaOf, needIn, needOf, endpointsIn, endpointsOf}
 use Rattle.record.proofs.Passing.{sound-record-passes}
-use Rattle.peek.specs.Peek.{short, txPktRdy}
+use Rattle.peek.specs.Peek.{shortIn, txPktRdy, testsBy}
+use Rattle.write_zero.specs.Write.{txSize}
+use Rattle.read_zero.specs.Read.{rxSize}
 use Rattle.write_tests.specs.Write as write
 use Rattle.usb_device_write.specs.Write as write-write
 use Rattle.read_tests.specs.Read as read
 use Rattle.usb_device_read.specs.Read as read-read
 use Rattle.usb_device_interrupt.specs.Interrupt.{snapshotOf, cleared, taken, interrupted, interruptBy, interruptCall}
-use Rattle.usb_device_poll.specs.Poll.{PollOutcome, pollLogged, pollServed, pollWhen, pollCall}
+use Rattle.usb_device_poll.specs.Poll.{PollOutcome, outcomeOf, pollLogged, pollServed, pollWhen, pollAdmitted, pollCall}
 use Rattle.host.specs.Host as host
 use Rattle.calls.specs.Calls.{Op, step}
 use Rattle.calls.specs.Calls as calls
@@ -58,7 +59,7 @@ pub data Do : Type 0 where
 
 abbrev pub op : Do → Op
 op (arrive e) = calls.arrival e packet fifo
-op (take e) = calls.read e fifo list buffer
+op (take e) = calls.read e buffer fifo list
 op (put e) = calls.write e packet fifo list
 op (collect e) = calls.collection e fifo
 op reset = calls.busReset
@@ -69,53 +70,58 @@ op poll = calls.poll list
 -- What they leave, with the table t and the answer of reply 16's test as arguments: an interrupt, a poll, and then each.
 abbrev irqIn : Bool → List Row → Record → Record
 irqIn true t k = record {
-  regs = cleared (k .regs);
+  regs = record { board = k .regs .board; words = cleared (k .regs .words) };
   endpoints = k .endpoints;
   «control_state» = k .«control_state»;
-  irq = taken (length t) (snapshotOf (k .regs)) (k .irq);
+  irq = taken (length t) (snapshotOf (k .regs .words)) (k .irq);
 }
 irqIn false t k = k
 
-abbrev pollIn : Entry → List Row → Record → PollOutcome
-pollIn (Refused x) t k = pollWhen (Refused x) k list
-pollIn Clear t k = pollLogged k (repairedBelow (length t) (log (k .regs) list 0))
+abbrev pollIn : Admission → List Row → Record → PollOutcome
+pollIn (Refused x) t k = outcomeOf k (pollWhen (Refused x) (k .regs .board) (log (k .regs .words) list 0) (k .«control_state») (k .irq))
+pollIn Clear t k = outcomeOf k (pollLogged (repairedBelow (length t) (log (k .regs .words) list 0)) (k .«control_state») (k .irq))
 
 module _ (t : List Row) (passes : Bool) (k : Record) where
-  abbrev entryIn : ℕ → Entry
-  entryIn e = entryBy (ltb (length fifo) (total t)) passes (leb (length t) e)
+  abbrev entryIn : ℕ → Admission
+  entryIn e = admissionBy (ltb (length fifo) (total t)) passes (leb (length t) e)
 
-  abbrev bothIn : ℕ → Entry
-  bothIn e = entryBy (ltb (length fifo) (total t) || ltb (length list) 384) passes (leb (length t) e)
+  abbrev bothIn : ℕ → Admission
+  bothIn e = admissionBy (ltb (length fifo) (total t) || ltb (length list) 384) passes (leb (length t) e)
 
   abbrev arriveIn : ℕ → host.Arrival
   arriveIn e =
-      host.unlessArrived (host.arrivalBy (entryIn e) (ltb (areaAt t e Out .size) (length packet)) (sideAt (k .regs) e Out .ready)) k fifo
-      (record { event = host.done k (events.arrived (k .regs) e (length packet)); fifo = pasted fifo (areaAt t e Out .start) packet })
+      host.unlessArrived (host.arrivalBy (entryIn e) (ltb (areaAt t e Out .size) (length packet)) (sideAt (k .regs .words) e Out .ready)) k fifo
+      (record { event = host.done k (events.arrived (k .regs .words) e (length packet)); fifo = pasted fifo (areaAt t e Out .start) packet })
 
   abbrev takeIn : ℕ → Record
-  takeIn e = read-read.readBy (read.testsBy (bothIn e) (read.ownTestsAt k e (length buffer))) k e fifo list buffer .result .«record»
+  takeIn e =
+      read-read.outcome k
+      (read-read.readBy (testsBy (bothIn e) (read.ownTestsAt (k .regs .words) (k .«control_state») e (length buffer)))
+      (k .regs .board) (k .«control_state») (k .irq) (rxSize k) e buffer fifo (log (k .regs .words) list 0)) .result .«record»
 
   abbrev putIn : ℕ → Record
   putIn e =
-      write-write.writeBy
-      (write.testsBy (bothIn e) (write.ownTests (txPktRdy e (withIndex (k .regs) e)) (ltb (areaAt t e In .size) (length packet)) (write.notWritable k e (length packet))))
-      k e packet fifo list .result .«record»
+      write-write.outcome k
+      (write-write.writeBy
+      (testsBy (bothIn e)
+      (write.ownTests (txPktRdy e (k .regs .words)) (ltb (areaAt t e In .size) (length packet)) (write.notWritable (k .«control_state») e (length packet))))
+      (k .regs .board) (k .«control_state») (k .irq) (txSize k) e packet fifo (log (k .regs .words) list 0)) .result .«record»
 
   abbrev collectIn : ℕ → Record
-  collectIn e = host.unlessCollected (host.collectionBy (entryIn e) (sideAt (k .regs) e In .ready)) k (host.collectedFrom k e) .«record»
+  collectIn e = host.unlessCollected (host.collectionBy (entryIn e) (sideAt (k .regs .words) e In .ready)) k (host.collectedFrom k e) .«record»
 
-  abbrev busIn : Regs → Record
-  busIn r = host.unless (entryBy false passes false) k r .«record»
+  abbrev busIn : File → Record
+  busIn r = host.unless (admissionBy false passes false) k r .«record»
 
   abbrev pub stepIn : Do → Record
   stepIn (arrive e) = arriveIn e .event .«record»
   stepIn (take e) = takeIn e
   stepIn (put e) = putIn e
   stepIn (collect e) = collectIn e
-  stepIn reset = busIn (events.busReset (k .regs))
-  stepIn resume = busIn (events.busResume (k .regs))
+  stepIn reset = busIn (events.busReset (k .regs .words))
+  stepIn resume = busIn (events.busResume (k .regs .words))
   stepIn irq = irqIn passes t k
-  stepIn poll = pollIn (entryBy (ltb (length list) 384) passes false) t k .result .«record»
+  stepIn poll = pollIn (admissionBy (ltb (length list) 384) passes false) t k .result .«record»
 
   abbrev pub eventIn : Do → Event
   eventIn (arrive e) = arrivalEvent (arriveIn e .event .answer) e
@@ -125,21 +131,22 @@ module _ (t : List Row) (passes : Bool) (k : Record) where
   eventIn reset = quiet
   eventIn resume = quiet
   eventIn irq = interruptEvent (interruptBy passes k .answer) k
-  eventIn poll = pollEvent (pollIn (entryBy (ltb (length list) 384) passes false) t k .result .answer)
+  eventIn poll = pollEvent (pollIn (admissionBy (ltb (length list) 384) passes false) t k .result .answer)
 
 -- the driver's are these, over its own table
-poll-in : (k : Record) (x : Entry) → pollWhen x k list ≡ pollIn x (rows (k .regs .board)) k
-unfolding pollServed checkOverrun
+poll-in : (k : Record) (x : Admission)
+    → outcomeOf k (pollWhen x (k .regs .board) (log (k .regs .words) list 0) (k .«control_state») (k .irq)) ≡ pollIn x (rows (k .regs .board)) k
+unfolding pollServed checkOverrun endpointsIn
 poll-in k (Refused x) = refl
 poll-in k Clear = refl
 
 irq-in : (k : Record) (passes : Bool) → interruptBy passes k .«record» ≡ irqIn passes (rows (k .regs .board)) k
-unfolding interrupted endpointsOf
+unfolding interrupted endpointsIn endpointsOf
 irq-in k true = refl
 irq-in k false = refl
 
 step-in : (k : Record) (o : Do) → step k (op o) ≡ stepIn (rows (k .regs .board)) (recordSound k) k o
-unfolding host.arrivalCall host.arrivalRefusal read-read.readCall read.tests write-write.writeCall write.tests write.ownTestsAt write.tooLong host.collectionCall host.collectionRefusal host.busResetCall host.resumeCall interruptCall pollCall areaOf needOf endpointsOf short
+unfolding host.arrivalCall host.arrivalRefusal host.arrivalRefusalIn read-read.readCall read-read.readIn read.testsIn write-write.writeCall write-write.writeIn write.testsIn write.ownTestsAt write.tooLong host.collectionCall host.collectionRefusal host.collectionRefusalIn host.busResetCall host.resumeCall interruptCall pollCall pollAdmitted recordSound areaIn areaOf needIn needOf endpointsIn endpointsOf shortIn
 step-in k (arrive e) = refl
 step-in k (take e) = refl
 step-in k (put e) = refl
@@ -147,10 +154,10 @@ step-in k (collect e) = refl
 step-in k reset = refl
 step-in k resume = refl
 step-in k irq = irq-in k (recordSound k)
-step-in k poll = ap (λ (o : PollOutcome). o .result .«record») (poll-in k (entryBy (ltb (length list) 384) (recordSound k) false))
+step-in k poll = ap (λ (o : PollOutcome). o .result .«record») (poll-in k (admissionBy (ltb (length list) 384) (recordSound k) false))
 
 event-in : (k : Record) (o : Do) → event k (op o) ≡ eventIn (rows (k .regs .board)) (recordSound k) k o
-unfolding host.arrivalCall host.arrivalRefusal interruptCall pollCall areaOf needOf endpointsOf
+unfolding host.arrivalCall host.arrivalRefusal host.arrivalRefusalIn interruptCall pollCall pollAdmitted recordSound areaIn areaOf needIn needOf endpointsIn endpointsOf
 event-in k (arrive e) = refl
 event-in k (take e) = refl
 event-in k (put e) = refl
@@ -158,7 +165,7 @@ event-in k (collect e) = refl
 event-in k reset = refl
 event-in k resume = refl
 event-in k irq = refl
-event-in k poll = ap (λ (o : PollOutcome). pollEvent (o .result .answer)) (poll-in k (entryBy (ltb (length list) 384) (recordSound k) false))
+event-in k poll = ap (λ (o : PollOutcome). pollEvent (o .result .answer)) (poll-in k (admissionBy (ltb (length list) 384) (recordSound k) false))
 
 -- with the display's table, and a record that passes
 abbrev pub sample : Machine

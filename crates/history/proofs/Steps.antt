@@ -6,15 +6,15 @@ use lib.Dec.{T}
 use lib.ListN.{length}
 use Rattle.board.specs.declared.Board.{Board}
 use Rattle.board.specs.declared.Direction.the-variants.{Out, In}
-use Rattle.regs.specs.declared.Pending.{Pending}
+use Rattle.regs.specs.Registers.{intrOf}
 use Rattle.events.specs.Promise as events
 use Rattle.events.specs.Promise.{happens, raises}
 use Rattle.events.proofs.Promises.{pending}
 use Rattle.record.specs.declared.Flags.{Flags}
 use Rattle.record.specs.declared.Record.{Record}
-use Rattle.record.specs.declared.Entry.{Entry}
-use Rattle.record.specs.declared.Entry.the-variants.{Clear, Refused}
-use Rattle.record.specs.Record.{entryBy, recordSound}
+use Rattle.record.specs.declared.Admission.{Admission}
+use Rattle.record.specs.declared.Admission.the-variants.{Clear, Refused}
+use Rattle.record.specs.Record.{admissionBy, recordSound}
 use Rattle.usb_device_interrupt.specs.declared.Interrupted.{Interrupted}
 use Rattle.usb_device_interrupt.specs.declared.Interrupted.the-variants as interrupted
 use Rattle.usb_device_interrupt.specs.Interrupt.{interruptCall}
@@ -59,7 +59,7 @@ one-place k (enable l) i w = tt
 one-place k (reset l) i w = tt
 one-place k (setDeviceAddress a l) i w = tt
 one-place k (write e bytes f l) i w = tt
-one-place k (read e f l buf) i w = tt
+one-place k (read e buf f l) i w = tt
 one-place k (setStalled e d s l) i w = tt
 one-place k (isStalled e d l) i w = tt
 one-place k forceReset i w = tt
@@ -74,37 +74,37 @@ one-place k (overrun e) i w = tt
 module _ (b : Board) (k : Record) (kept : Kept b k) where
   -- a call that stores leaves the interrupt registers
   stored : (o : Op) → Stores o → Alike (k .irq) (step k o .irq) → Quiet (look b) k (step k o)
-  stored o s a = calm b k (step k o) a (ap (λ (p : Pending). p .rx) (same-pending k o s))
+  stored o s a = calm b k (step k o) a (same-pending k o (kept .good .six) s .intr Out)
 
   flags-same : (o : Op) → Stores o → step k o .irq ≡ k .irq → Quiet (look b) k (step k o)
   flags-same o s p = stored o s (subst (λ (f : Flags). Alike (k .irq) f) (sym p) (same (k .irq) (small b k kept)))
 
   -- a host event other than an arrival, refused or not
-  event-does : (x : Entry) (o : events.Event) → raises o (k .regs .pending) .rx ≡ k .regs .pending .rx
-      → Quiet (look b) k (host.unless x k (happens o (k .regs)) .«record»)
+  event-does : (x : Admission) (o : events.Event) → raises o Out (intrOf (k .regs .words) Out) ≡ intrOf (k .regs .words) Out
+      → Quiet (look b) k (host.unless x k (happens o (k .regs .words)) .«record»)
   event-does (Refused x) o due = unchanged (look b) k k refl refl refl refl refl
-  event-does Clear o due = calm b k _ (same (k .irq) (small b k kept)) (ap (λ (p : Pending). p .rx) (pending o (k .regs)) ∙ due)
+  event-does Clear o due = calm b k _ (same (k .irq) (small b k kept)) (pending o (k .regs .words) Out (kept .good .six) ∙ due)
 
-  collects : (x : Entry) (e : ℕ) → Quiet (look b) k (host.unlessCollected x k (host.collectedFrom k e) .«record»)
+  collects : (x : Admission) (e : ℕ) → Quiet (look b) k (host.unlessCollected x k (host.collectedFrom k e) .«record»)
   unfolding host.collectedFrom
   collects (Refused x) e = unchanged (look b) k k refl refl refl refl refl
   collects Clear e = event-does Clear (events.collection e) refl
 
-  abbrev plain : Entry
-  plain = entryBy false (recordSound k) false
+  abbrev plain : Admission
+  plain = admissionBy false (recordSound k) false
 
   pub does : (o : Op) → Does (look b) k (event k o) (step k o)
   unfolding host.collectionCall host.busResetCall host.suspendCall host.resumeCall host.setupEndCall host.underrunCall host.overrunCall host.missCall
-  does (poll l) = poll-does b k kept l (ap (λ (p : Pending). p .rx) (same-pending k (poll l) tt))
+  does (poll l) = poll-does b k kept l (same-pending k (poll l) (kept .good .six) tt .intr Out)
   does onInterrupt = interrupt-does b k kept
-  does (arrival e bytes f) = arrival-does k e bytes f b
+  does (arrival e bytes f) = arrival-does k e bytes f b (kept .good .six)
   does (allocEp q w) = flags-same (allocEp q w) tt (alloc-ep-call k q w)
   does (busInit l) = flags-same (busInit l) tt (bus-init-call k l)
   does (enable l) = flags-same (enable l) tt (enable-call k l)
   does (reset l) = flags-same (reset l) tt (reset-call k l)
   does (setDeviceAddress a l) = flags-same (setDeviceAddress a l) tt (address-call k l a)
   does (write e bytes f l) = stored (write e bytes f l) tt (write-call k (small b k kept) e bytes f l)
-  does (read e f l buf) = flags-same (read e f l buf) tt (read-call k e f l buf)
+  does (read e buf f l) = flags-same (read e buf f l) tt (read-call k e buf f l)
   does (setStalled e d s l) = flags-same (setStalled e d s l) tt (set-stalled-call k l e d s)
   does (isStalled e d l) = flags-same (isStalled e d l) tt (is-stalled-call k l e d)
   does forceReset = flags-same forceReset tt refl

@@ -7,9 +7,11 @@ use Prim.Native.Nat.{ℕ, _-_, _≤_, _<_}
 use lib.ListN.{length}
 use Rattle.laws.specs.Words.{bit}
 use Rattle.board.specs.declared.Board.{Board}
-use Rattle.board.specs.declared.Direction.the-variants.{Out}
+use Rattle.board.specs.declared.Direction.the-variants.{Out, In}
 use Rattle.board.specs.Boards.{rows}
-use Rattle.regs.specs.Registers.{sideAt}
+use Rattle.regs.specs.Registers.{sideAt, intrusb, intrOf}
+use Rattle.events.specs.declared.BusEvent.the-variants.{Suspend as SuspendBit}
+use Rattle.events.specs.Events.{busBit}
 use Rattle.record.specs.declared.Record.{Record}
 use Rattle.record.specs.Record.{freshRecord, recordSound, endpointsOf, areaOf, needOf}
 use Rattle.usb_device_interrupt.specs.declared.Interrupted.{Interrupted}
@@ -47,7 +49,7 @@ pollEvent (polled.Refused x) = quiet
 -- "taken": an answered on_interrupt. What it read is what the model's interrupt registers held just before it, never the driver's flags.
 -- A packet's receive interrupt is taken by any interrupt after it arrived: its bit stands in the register until it is read.
 abbrev pub interruptEvent : Interrupted → Record → Event
-interruptEvent interrupted.Done k = interrupt (bit (k .regs .pending .tx)) (k .regs .pending .usb .suspend)
+interruptEvent interrupted.Done k = interrupt (bit (intrOf (k .regs .words) In)) (bit (intrusb (k .regs .words)) (busBit SuspendBit))
 interruptEvent (interrupted.Refused x) k = quiet
 
 -- "the packets that arrived": answered arrivals, over the whole history
@@ -65,7 +67,7 @@ event k (enable l) = quiet
 event k (reset l) = quiet
 event k (setDeviceAddress a l) = quiet
 event k (write e b f l) = quiet
-event k (read e f l b) = quiet
+event k (read e b f l) = quiet
 event k (setStalled e d s l) = quiet
 event k (isStalled e d l) = quiet
 event k forceReset = quiet
@@ -79,7 +81,7 @@ event k (overrun e) = quiet
 
 -- "a packet still waiting", "with nothing waiting": the endpoint's RxPktRdy, which is set for an empty packet too
 abbrev pub waiting : Record → ℕ → Bool
-waiting k e = sideAt (k .regs) e Out .ready
+waiting k e = sideAt (k .regs .words) e Out .ready
 
 -- "For endpoints 1 to 5, over any history from a fresh record": 5 is the board's own highest endpoint. A history is any list of public
 -- calls and host events, each lent whatever it is lent.

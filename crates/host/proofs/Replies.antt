@@ -10,21 +10,20 @@ use lib.ListN.{length}
 use Rattle.laws.specs.Lists.{pasted}
 use Rattle.board.specs.declared.Direction.{Direction}
 use Rattle.board.specs.declared.Direction.the-variants.{Out, In}
-use Rattle.regs.specs.declared.Regs.{Regs}
-use Rattle.regs.specs.Registers.{sideAt}
+use Rattle.regs.specs.Registers.{File, sideAt}
 use Rattle.events.specs.Events.{arrived, missing}
 use Rattle.record.specs.declared.Record.{Record}
 use Rattle.record.specs.declared.Refusal.{Refusal}
 use Rattle.record.specs.declared.Refusal.the-variants.{NoSuchEndpoint, TooLong, TooLittleLent, BadRecord, OutOfTurn}
-use Rattle.record.specs.declared.Entry.{Entry}
-use Rattle.record.specs.declared.Entry.the-variants.{Clear, Refused}
-use Rattle.record.specs.Record.{recordSound, entryBy, areaOf, needOf}
+use Rattle.record.specs.declared.Admission.{Admission}
+use Rattle.record.specs.declared.Admission.the-variants.{Clear, Refused}
+use Rattle.record.specs.Record.{recordSound, admissionBy, endpointsOf, areaOf, needOf}
 use Rattle.record.proofs.Rows.{Row, row, first, then, Given, None, alone, rows-at, rows-named, rows-plain, given-exactly, clear-exactly}
 use Rattle.host.specs.declared.Happened.the-variants as happened
 use Rattle.host.specs.declared.Taken.the-variants as taken
 use Rattle.host.specs.declared.Host.{Host}
 use Rattle.host.specs.declared.Collected.{Collected}
-use Rattle.host.specs.Host.{refused, done, unless, beyond, busResetCall, suspendCall, resumeCall, setupEndCall, missRefusal, missCall, underrunCall, overrunCall, entryAt, arrivalBy, arrivalRefusal, Arrival, unlessArrived, arrivalCall, collectionBy, collectionRefusal, collectedFrom, unlessCollected, collectionCall}
+use Rattle.host.specs.Host.{refused, done, unless, beyond, busResetCall, suspendCall, resumeCall, setupEndCall, missRefusal, missCall, underrunCall, overrunCall, entryAt, arrivalBy, arrivalRefusalIn, arrivalRefusal, Arrival, unlessArrived, arrivalCall, collectionBy, collectionRefusalIn, collectionRefusal, collectedFrom, unlessCollected, collectionCall}
 
 -- the rows of each event, in document 01's order: "15, 16, 8, then .. arrival 9, 17"
 abbrev pub plainRows : Record → List Row
@@ -35,13 +34,13 @@ missRows k e = row BadRecord (not (recordSound k)) ∷ row NoSuchEndpoint (eqb e
 
 -- n bytes arrive, and m bytes of FIFO memory are lent
 abbrev pub arrivalOwn : Record → ℕ → ℕ → List Row
-arrivalOwn k e n = row TooLong (ltb (areaOf k e Out .size) n) ∷ row OutOfTurn (sideAt (k .regs) e Out .ready) ∷ []
+arrivalOwn k e n = row TooLong (ltb (areaOf k e Out .size) n) ∷ row OutOfTurn (sideAt (k .regs .words) e Out .ready) ∷ []
 
 abbrev pub arrivalRows : Record → ℕ → ℕ → ℕ → List Row
 arrivalRows k e n m = row TooLittleLent (ltb m (needOf k)) ∷ row BadRecord (not (recordSound k)) ∷ row NoSuchEndpoint (beyond k e) ∷ arrivalOwn k e n
 
 abbrev pub collectionOwn : Record → ℕ → List Row
-collectionOwn k e = row OutOfTurn (not (sideAt (k .regs) e In .ready)) ∷ []
+collectionOwn k e = row OutOfTurn (not (sideAt (k .regs .words) e In .ready)) ∷ []
 
 abbrev pub collectionRows : Record → ℕ → ℕ → List Row
 collectionRows k e m = row TooLittleLent (ltb m (needOf k)) ∷ row BadRecord (not (recordSound k)) ∷ row NoSuchEndpoint (beyond k e) ∷ collectionOwn k e
@@ -65,7 +64,7 @@ same e = cc
 same-answer : {x y : Refusal} → happened.Refused x ≡ happened.Refused y → x ≡ y
 same-answer e = cc
 
-answers : (k : Record) (r : Regs) (t : Entry) (rs : List Row) → t ≡ first rs → Answers (unless t k r) k rs
+answers : (k : Record) (r : File) (t : Admission) (rs : List Row) → t ≡ first rs → Answers (unless t k r) k rs
 answers k r (Refused y) rs e = record {
   refusals = λ x.
       (λ p. given-exactly x rs .0 (sym e ∙ ap Refused (same-answer p)), λ q. ap happened.Refused (same (e ∙ given-exactly x rs .1 q)));
@@ -78,12 +77,12 @@ answers k r Clear rs e = record {
   unchanged = λ x p. clash (sym p);
 }
 
-plain : (k : Record) → entryBy false (recordSound k) false ≡ first (plainRows k)
+plain : (k : Record) → admissionBy false (recordSound k) false ≡ first (plainRows k)
 plain k = alone _ ∙ rows-plain [] (recordSound k)
 
 missed : (k : Record) (e : ℕ) (d : Direction) → Answers (missCall k e d) k (missRows k e)
-unfolding missCall
-missed k e d = answers k (missing (k .regs) e d) (missRefusal k e) _ (alone (missRefusal k e) ∙ rows-named [] (recordSound k) (eqb e 0 || beyond k e))
+unfolding missCall recordSound endpointsOf
+missed k e d = answers k (missing (k .regs .words) e d) (missRefusal k e) _ (alone (missRefusal k e) ∙ rows-named [] (recordSound k) (eqb e 0 || beyond k e))
 
 module _ (k : Record) where
   pub bus-reset : Answers (busResetCall k) k (plainRows k)
@@ -115,27 +114,27 @@ pub record Arrives (o : Arrival) (k : Record) (f : List ℕ) (rs : List Row) : T
   pub event : Answers (o .event) k rs
   pub kept : (x : Refusal) → o .event .answer ≡ happened.Refused x → o .fifo ≡ f
 
-arrives : (k : Record) (f g : List ℕ) (r : Regs) (t : Entry) (rs : List Row) → t ≡ first rs
+arrives : (k : Record) (f g : List ℕ) (r : File) (t : Admission) (rs : List Row) → t ≡ first rs
     → Arrives (unlessArrived t k f (record { event = done k r; fifo = g })) k f rs
 arrives k f g r (Refused y) rs e = record { event = answers k r (Refused y) rs e; kept = λ x p. refl }
 arrives k f g r Clear rs e = record { event = answers k r Clear rs e; kept = λ x p. clash (sym p) }
 
-arrival-own : (t : Entry) (long waits : Bool) → arrivalBy t long waits ≡ then t (first (row TooLong long ∷ row OutOfTurn waits ∷ []))
+arrival-own : (t : Admission) (long waits : Bool) → arrivalBy t long waits ≡ then t (first (row TooLong long ∷ row OutOfTurn waits ∷ []))
 arrival-own (Refused x) l w = refl
 arrival-own Clear true w = refl
 arrival-own Clear false true = refl
 arrival-own Clear false false = refl
 
 arrival-rows : (k : Record) (e n m : ℕ) → arrivalRefusal k e n m ≡ first (arrivalRows k e n m)
-unfolding arrivalRefusal
+unfolding arrivalRefusal arrivalRefusalIn recordSound endpointsOf areaOf needOf
 arrival-rows k e n m =
-    arrival-own (entryAt k e m) (ltb (areaOf k e Out .size) n) (sideAt (k .regs) e Out .ready)
+    arrival-own (entryAt k e m) (ltb (areaOf k e Out .size) n) (sideAt (k .regs .words) e Out .ready)
     ∙ rows-at (arrivalOwn k e n) (ltb m (needOf k)) (recordSound k) (beyond k e)
 
 pub arrival : (k : Record) (e : ℕ) (b f : List ℕ) → Arrives (arrivalCall k e b f) k f (arrivalRows k e (length b) (length f))
 unfolding arrivalCall
 arrival k e b f =
-    arrives k f (pasted f (areaOf k e Out .start) b) (arrived (k .regs) e (length b)) (arrivalRefusal k e (length b) (length f)) _
+    arrives k f (pasted f (areaOf k e Out .start) b) (arrived (k .regs .words) e (length b)) (arrivalRefusal k e (length b) (length f)) _
     (arrival-rows k e (length b) (length f))
 
 -- collection, whose answer has values
@@ -150,9 +149,9 @@ clash-taken e = let z : _≡_ {A = ℕ} 0 1 = cc in absurd (omega arith)
 same-taken : {x y : Refusal} → taken.Refused x ≡ taken.Refused y → x ≡ y
 same-taken e = cc
 
-collects : (k : Record) (e : ℕ) (t : Entry) (rs : List Row) → t ≡ first rs
-    → Collects (unlessCollected t k (collectedFrom k e)) k rs (areaOf k e In .start) (sideAt (k .regs) e In .len)
-unfolding collectedFrom
+collects : (k : Record) (e : ℕ) (t : Admission) (rs : List Row) → t ≡ first rs
+    → Collects (unlessCollected t k (collectedFrom k e)) k rs (areaOf k e In .start) (sideAt (k .regs .words) e In .len)
+unfolding collectedFrom areaOf
 collects k e (Refused y) rs q = record {
   refusals = λ x.
       (λ p. given-exactly x rs .0 (sym q ∙ ap Refused (same-taken p)), λ g. ap taken.Refused (same (q ∙ given-exactly x rs .1 g)));
@@ -165,17 +164,17 @@ collects k e Clear rs q = record {
   unchanged = λ x p. clash-taken (sym p);
 }
 
-collection-own : (t : Entry) (waits : Bool) → collectionBy t waits ≡ then t (first (row OutOfTurn (not waits) ∷ []))
+collection-own : (t : Admission) (waits : Bool) → collectionBy t waits ≡ then t (first (row OutOfTurn (not waits) ∷ []))
 collection-own (Refused x) w = refl
 collection-own Clear true = refl
 collection-own Clear false = refl
 
 collection-rows : (k : Record) (e m : ℕ) → collectionRefusal k e m ≡ first (collectionRows k e m)
-unfolding collectionRefusal
+unfolding collectionRefusal collectionRefusalIn recordSound endpointsOf needOf
 collection-rows k e m =
-    collection-own (entryAt k e m) (sideAt (k .regs) e In .ready) ∙ rows-at (collectionOwn k e) (ltb m (needOf k)) (recordSound k) (beyond k e)
+    collection-own (entryAt k e m) (sideAt (k .regs .words) e In .ready) ∙ rows-at (collectionOwn k e) (ltb m (needOf k)) (recordSound k) (beyond k e)
 
 pub collection : (k : Record) (e : ℕ) (f : List ℕ)
-    → Collects (collectionCall k e f) k (collectionRows k e (length f)) (areaOf k e In .start) (sideAt (k .regs) e In .len)
+    → Collects (collectionCall k e f) k (collectionRows k e (length f)) (areaOf k e In .start) (sideAt (k .regs .words) e In .len)
 unfolding collectionCall
 collection k e f = collects k e (collectionRefusal k e (length f)) _ (collection-rows k e (length f))

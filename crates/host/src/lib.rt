@@ -1,20 +1,23 @@
 // The host's events on the whole record, with document 01's refusals.
 // An event takes the record by value, any numbers and any lent memory, tests what document 01 refuses before anything changes, and gives back
 // its answer and the record. It stores nothing: no list is lent.
+use board::Board;
 use board::Direction;
-use board::Span;
-use record::Entry;
+use events::BusEvent;
+use record::Admission;
+use record::Flags;
 use record::Record;
 use record::Refusal;
 use regs::Regs;
 ghost use mathlib.Core.Path.{_≡_};
 ghost use mathlib.Core.Bool.{false};
-ghost use Prim.Native.Nat.{_≤_, _<_};
+ghost use Prim.Native.Nat.{_<_};
 ghost use lib.ListN.{length};
+ghost use Rattle.laws.specs.Lists.{pasted};
 ghost use Rattle.board.specs.declared.Direction.the-variants.{Out};
-ghost use Rattle.record.specs.declared.Entry.the-variants.{Clear};
-ghost use Rattle.record.specs.Record.{areaOf, needOf, withRegs};
-ghost use Rattle.host.specs.Host.{refused, done, missRefusal, entryAt, Admitted, InBuffer, arrivalRefusal, arrivalCall, collectionRefusal, collectedFrom, collectionCall, busResetCall, suspendCall, resumeCall, setupEndCall, missCall, underrunCall, overrunCall, happenedNumber, takenNumber};
+ghost use Rattle.events.specs.Events.{arrived, collected, missing};
+ghost use Rattle.record.specs.Record.{admissionBy, passes, recordSound, areaIn};
+ghost use Rattle.host.specs.Host.{answerBy, leftBy, unless, signalled, missRefusalIn, entryIn, InBuffer, arrivalRefusalIn, arrivalCall, collectionRefusalIn, packetIn, takenBy, collectionCall, busResetCall, suspendCall, resumeCall, setupEndCall, missCall, underrunCall, overrunCall, happenedNumber, takenNumber};
 
 // The answer of an event that gives no value.
 pub enum Happened {
@@ -38,102 +41,124 @@ pub struct Collected {
     pub record: Record,
 }
 
-fn refuse(k: Record, x: Refusal) -> Host
-    ensures { λ a. ⌜ a ≡ refused k x ⌝ }
+// What happens at no endpoint: a bus event, or SetupEnd.
+enum Signal {
+    Bus(BusEvent),
+    SetupEnd,
+}
+
+fn happen(w: &mut [u16; 46], o: Signal)
+    ensures { λ _. ⌜ now (w .exit) ≡ signalled o (now (w .entry)) ⌝ }
 {
-    Host {
-        answer: Happened::Refused(x),
-        record: k,
+    match o {
+        Signal::Bus(e) => {
+            events::bus(w, e);
+            return;
+        }
+        Signal::SetupEnd => {
+            events::setup_end(w);
+            return;
+        }
     }
 }
 
-// The registers are all that an event changes.
-fn with_regs(k: Record, r: Regs) -> Record
-    ensures { λ a. ⌜ a ≡ withRegs k r ⌝ }
+// 16 alone can refuse it.
+fn signal_if(b: Board, w: &mut [u16; 46], f: Flags, o: Signal) -> Happened
+    ensures { λ a. ⌜ (a ≡ answerBy (admissionBy false (passes b (now (w .entry)) f) false)) × (now (w .exit) ≡ leftBy (admissionBy false (passes b (now (w .entry)) f) false) (now (w .entry)) (signalled o (now (w .entry)))) ⌝ }
 {
-    let mut next = k;
-    next.regs = r;
-    next
+    let t = record::admit(false, b, w, f, false);
+    match t {
+        Admission::Refused(x) => Happened::Refused(x),
+        Admission::Clear => {
+            happen(w, o);
+            Happened::Done
+        }
+    }
 }
 
-fn finish(k: Record, r: Regs) -> Host
-    ensures { λ a. ⌜ a ≡ done k r ⌝ }
+fn on_signal(k: Record, o: Signal) -> Host
+    ensures { λ a. ⌜ a ≡ unless (admissionBy false (recordSound k) false) k (signalled o (k .regs .words)) ⌝ }
 {
+    let r = k.regs;
+    let e = k.endpoints;
+    let c = k.control_state;
+    let f = k.irq;
+    let b = r.board;
+    let mut w = r.words;
+    let a = signal_if(b, &mut w, f, o);
     Host {
-        answer: Happened::Done,
-        record: with_regs(k, r),
+        answer: a,
+        record: Record {
+            regs: Regs { board: b, words: w },
+            endpoints: e,
+            control_state: c,
+            irq: f,
+        },
     }
 }
 
 pub fn bus_reset(k: Record) -> Host
     ensures { λ a. ⌜ a ≡ busResetCall k ⌝ }
 {
-    let t = record::admit(false, k, false);
-    match t {
-        Entry::Refused(x) => refuse(k, x),
-        Entry::Clear => {
-            let r = k.regs;
-            finish(k, events::bus_reset(r))
-        }
-    }
+    on_signal(k, Signal::Bus(BusEvent::Reset))
 }
 
 pub fn suspend(k: Record) -> Host
     ensures { λ a. ⌜ a ≡ suspendCall k ⌝ }
 {
-    let t = record::admit(false, k, false);
-    match t {
-        Entry::Refused(x) => refuse(k, x),
-        Entry::Clear => {
-            let r = k.regs;
-            finish(k, events::bus_suspend(r))
-        }
-    }
+    on_signal(k, Signal::Bus(BusEvent::Suspend))
 }
 
 pub fn resume(k: Record) -> Host
     ensures { λ a. ⌜ a ≡ resumeCall k ⌝ }
 {
-    let t = record::admit(false, k, false);
-    match t {
-        Entry::Refused(x) => refuse(k, x),
-        Entry::Clear => {
-            let r = k.regs;
-            finish(k, events::bus_resume(r))
-        }
-    }
+    on_signal(k, Signal::Bus(BusEvent::Resume))
 }
 
 pub fn setup_end(k: Record) -> Host
     ensures { λ a. ⌜ a ≡ setupEndCall k ⌝ }
 {
-    let t = record::admit(false, k, false);
-    match t {
-        Entry::Refused(x) => refuse(k, x),
-        Entry::Clear => {
-            let r = k.regs;
-            finish(k, events::setup_end(r))
-        }
-    }
+    on_signal(k, Signal::SetupEnd)
 }
 
 // Endpoint 0 has neither bit.
-fn miss_refusal(k: Record, ep: u8) -> Entry
-    ensures { λ a. ⌜ a ≡ missRefusal k ep ⌝ }
+fn miss_refusal(b: Board, w: &[u16; 46], f: Flags, ep: u8) -> Admission
+    ensures { λ a. ⌜ a ≡ missRefusalIn b (now (w .entry)) f ep ⌝ }
 {
-    record::admit(false, k, (ep == 0) | (record::endpoints(k) <= ep))
+    record::admit(false, b, w, f, (ep == 0) | (record::endpoints(b) <= ep))
+}
+
+fn miss_if(b: Board, w: &mut [u16; 46], f: Flags, ep: u8, d: Direction) -> Happened
+    ensures { λ a. ⌜ (a ≡ answerBy (missRefusalIn b (now (w .entry)) f ep)) × (now (w .exit) ≡ leftBy (missRefusalIn b (now (w .entry)) f ep) (now (w .entry)) (missing (now (w .entry)) ep d)) ⌝ }
+{
+    let t = miss_refusal(b, w, f, ep);
+    match t {
+        Admission::Refused(x) => Happened::Refused(x),
+        Admission::Clear => {
+            events::miss(w, ep, d);
+            Happened::Done
+        }
+    }
 }
 
 fn miss(k: Record, ep: u8, d: Direction) -> Host
     ensures { λ a. ⌜ a ≡ missCall k ep d ⌝ }
 {
-    let t = miss_refusal(k, ep);
-    match t {
-        Entry::Refused(x) => refuse(k, x),
-        Entry::Clear => {
-            let r = k.regs;
-            finish(k, events::miss(r, ep, d))
-        }
+    let r = k.regs;
+    let e = k.endpoints;
+    let c = k.control_state;
+    let f = k.irq;
+    let b = r.board;
+    let mut w = r.words;
+    let a = miss_if(b, &mut w, f, ep, d);
+    Host {
+        answer: a,
+        record: Record {
+            regs: Regs { board: b, words: w },
+            endpoints: e,
+            control_state: c,
+            irq: f,
+        },
     }
 }
 
@@ -150,29 +175,62 @@ pub fn overrun(k: Record, ep: u8) -> Host
 }
 
 // The tests that come first in an event at an endpoint, where FIFO memory of so many bytes is lent: 15, 16, 8.
-fn admit(bytes: usize, k: Record, ep: u8) -> Entry
-    ensures { λ a. ⌜ (a ≡ entryAt k ep bytes) × (a ≡ Clear → Admitted k ep bytes) ⌝ }
+fn admit(b: Board, w: &[u16; 46], f: Flags, ep: u8, memory: usize) -> Admission
+    ensures { λ a. ⌜ a ≡ entryIn b (now (w .entry)) f ep memory ⌝ }
 {
-    record::admit(bytes < record::need(k), k, record::endpoints(k) <= ep)
+    record::admit(
+        memory < record::need(b),
+        b,
+        w,
+        f,
+        record::endpoints(b) <= ep,
+    )
 }
 
 // Then 9, and 17 while one waits.
-fn arrival_refusal(memory: usize, k: Record, ep: u8, bytes: usize) -> Entry
-    ensures { λ a. ⌜ (a ≡ arrivalRefusal k ep bytes memory) × (a ≡ Clear → (ep < 6) × (needOf k ≤ memory) × (bytes ≤ areaOf k ep Out .size)) ⌝ }
+fn arrival_refusal(
+    b: Board,
+    w: &[u16; 46],
+    f: Flags,
+    ep: u8,
+    bytes: usize,
+    memory: usize,
+) -> Admission
+    ensures { λ a. ⌜ a ≡ arrivalRefusalIn b (now (w .entry)) f ep bytes memory ⌝ }
 {
-    let t = admit(memory, k, ep);
-    let s = record::area(k, ep, Direction::Out);
-    let r = k.regs;
+    let t = admit(b, w, f, ep, memory);
     match t {
-        Entry::Refused(x) => Entry::Refused(x),
-        Entry::Clear => {
+        Admission::Refused(x) => Admission::Refused(x),
+        Admission::Clear => {
+            let s = record::area(b, ep, Direction::Out);
             if s.size < bytes {
-                return Entry::Refused(Refusal::TooLong);
+                return Admission::Refused(Refusal::TooLong);
             }
-            if events::waits(r, ep, Direction::Out) {
-                return Entry::Refused(Refusal::OutOfTurn);
+            if events::waits(w, ep, Direction::Out) {
+                return Admission::Refused(Refusal::OutOfTurn);
             }
-            Entry::Clear
+            Admission::Clear
+        }
+    }
+}
+
+fn arrive_if(
+    b: Board,
+    w: &mut [u16; 46],
+    f: Flags,
+    ep: u8,
+    bytes: &[u8],
+    fifo: &mut [u8],
+) -> Happened
+    ensures { λ a. ⌜ (let t = arrivalRefusalIn b (now (w .entry)) f ep (length (now (bytes .entry))) (length (now (fifo .entry))) in (a ≡ answerBy t) × (now (w .exit) ≡ leftBy t (now (w .entry)) (arrived (now (w .entry)) ep (length (now (bytes .entry))))) × (now (fifo .exit) ≡ leftBy t (now (fifo .entry)) (pasted (now (fifo .entry)) (areaIn b ep Out .start) (now (bytes .entry))))) ⌝ }
+{
+    let t = arrival_refusal(b, w, f, ep, bytes.len(), fifo.len());
+    match t {
+        Admission::Refused(x) => Happened::Refused(x),
+        Admission::Clear => {
+            let s = record::area(b, ep, Direction::Out);
+            events::arrive(w, ep, bytes, s, fifo);
+            Happened::Done
         }
     }
 }
@@ -180,45 +238,58 @@ fn arrival_refusal(memory: usize, k: Record, ep: u8, bytes: usize) -> Entry
 pub fn arrival(k: Record, ep: u8, bytes: &[u8], fifo: &mut [u8]) -> Host
     ensures { λ a. ⌜ record { event = a; fifo = now (fifo .exit) } ≡ arrivalCall k ep (now (bytes .entry)) (now (fifo .entry)) ⌝ }
 {
-    let t = arrival_refusal(fifo.len(), k, ep, bytes.len());
-    match t {
-        Entry::Refused(x) => refuse(k, x),
-        Entry::Clear => {
-            let r = k.regs;
-            let s = record::area(k, ep, Direction::Out);
-            finish(k, events::arrive(r, fifo, ep, s, bytes))
-        }
+    let r = k.regs;
+    let e = k.endpoints;
+    let c = k.control_state;
+    let f = k.irq;
+    let b = r.board;
+    let mut w = r.words;
+    let a = arrive_if(b, &mut w, f, ep, bytes, fifo);
+    Host {
+        answer: a,
+        record: Record {
+            regs: Regs { board: b, words: w },
+            endpoints: e,
+            control_state: c,
+            irq: f,
+        },
     }
 }
 
 // 17 with none.
-fn collection_refusal(memory: usize, k: Record, ep: u8) -> Entry
-    ensures { λ a. ⌜ (a ≡ collectionRefusal k ep memory) × (a ≡ Clear → Admitted k ep memory) ⌝ }
+fn collection_refusal(b: Board, w: &[u16; 46], f: Flags, ep: u8, memory: usize) -> Admission
+    ensures { λ a. ⌜ a ≡ collectionRefusalIn b (now (w .entry)) f ep memory ⌝ }
 {
-    let t = admit(memory, k, ep);
-    let r = k.regs;
+    let t = admit(b, w, f, ep, memory);
     match t {
-        Entry::Refused(x) => Entry::Refused(x),
-        Entry::Clear => {
-            if events::waits(r, ep, Direction::In) {
-                return Entry::Clear;
+        Admission::Refused(x) => Admission::Refused(x),
+        Admission::Clear => {
+            if events::waits(w, ep, Direction::In) {
+                return Admission::Clear;
             }
-            Entry::Refused(Refusal::OutOfTurn)
+            Admission::Refused(Refusal::OutOfTurn)
         }
     }
 }
 
 // The place is asked before the packet is dropped.
-fn collect(k: Record, ep: u8) -> Collected
+fn collect(b: Board, w: &mut [u16; 46], ep: u8) -> Taken
     requires { ⌜ ep < 6 ⌝ }
-    ensures { λ a. ⌜ a ≡ collectedFrom k ep ⌝ }
+    ensures { λ a. ⌜ (a ≡ packetIn b (now (w .entry)) ep) × (now (w .exit) ≡ collected (now (w .entry)) ep) ⌝ }
 {
-    let r = k.regs;
-    let s = record::area(k, ep, Direction::In);
-    let n = events::waiting_len(r, ep, Direction::In);
-    Collected {
-        answer: Taken::Done(s.start, n as usize),
-        record: with_regs(k, events::collect(r, ep)),
+    let s = record::area(b, ep, Direction::In);
+    let n = events::waiting_len(w, ep, Direction::In);
+    events::collect(w, ep);
+    Taken::Done(s.start, n as usize)
+}
+
+fn collect_if(b: Board, w: &mut [u16; 46], f: Flags, ep: u8, memory: usize) -> Taken
+    ensures { λ a. ⌜ (a ≡ takenBy (collectionRefusalIn b (now (w .entry)) f ep memory) (packetIn b (now (w .entry)) ep)) × (now (w .exit) ≡ leftBy (collectionRefusalIn b (now (w .entry)) f ep memory) (now (w .entry)) (collected (now (w .entry)) ep)) ⌝ }
+{
+    let t = collection_refusal(b, w, f, ep, memory);
+    match t {
+        Admission::Refused(x) => Taken::Refused(x),
+        Admission::Clear => collect(b, w, ep),
     }
 }
 
@@ -226,13 +297,21 @@ fn collect(k: Record, ep: u8) -> Collected
 pub fn collection(k: Record, ep: u8, fifo: &[u8]) -> Collected
     ensures { λ a. ⌜ (a ≡ collectionCall k ep (now (fifo .entry))) × InBuffer (a .answer) (now (fifo .entry)) ⌝ }
 {
-    let t = collection_refusal(fifo.len(), k, ep);
-    match t {
-        Entry::Refused(x) => Collected {
-            answer: Taken::Refused(x),
-            record: k,
+    let r = k.regs;
+    let e = k.endpoints;
+    let c = k.control_state;
+    let f = k.irq;
+    let b = r.board;
+    let mut w = r.words;
+    let a = collect_if(b, &mut w, f, ep, fifo.len());
+    Collected {
+        answer: a,
+        record: Record {
+            regs: Regs { board: b, words: w },
+            endpoints: e,
+            control_state: c,
+            irq: f,
         },
-        Entry::Clear => collect(k, ep),
     }
 }
 

@@ -11,9 +11,8 @@ use csr::Rxcsrl;
 use csr::RxcsrlSet;
 use csr::Txcsrl;
 use csr::TxcsrlSet;
-use events::ReadWord;
+use events::BusEvent;
 use regs::Regs;
-use stores::Logged;
 ghost use Prim.Native.Nat.{_+_, _≤_, _<_};
 ghost use lib.ListN.{length};
 
@@ -92,38 +91,38 @@ fn side(code: u8) -> Direction {
 }
 
 // The stores, by document 01's register numbers.
-fn stored(code: u8, e: u8, v: u16, r: Regs, list: &mut [u16]) -> Logged
+fn stored(w: &mut [u16; 46], list: &mut [u16], code: u8, e: u8, v: u16) -> usize
     requires { ⌜ 3 ≤ length (now list) ⌝ }
-    ensures { λ o. ⌜ o .n ≤ 1 ⌝ }
+    ensures { λ n. ⌜ n ≤ 1 ⌝ }
 {
     match code {
-        1 => stores::write_faddr(r, list, 0, e),
-        2 => stores::write_power(r, list, 0),
-        3 => stores::write_index(r, list, 0, e),
-        4 => stores::write_csr0l(r, list, 0, csr0l_of(v)),
-        5 => stores::flush_csr0h(r, list, 0),
-        6 => stores::write_txcsrl(r, list, 0, txcsrl_of(v)),
-        7 => stores::write_rxcsrl(r, list, 0, rxcsrl_of(v)),
-        14 => stores::write_intrusbe(r, list, 0),
-        15 => stores::write_packet(r, list, 0, v),
-        _ => Logged { regs: r, n: 0 },
+        1 => stores::write_faddr(w, list, 0, e),
+        2 => stores::write_power(w, list, 0),
+        3 => stores::write_index(w, list, 0, e),
+        4 => stores::write_csr0l(w, list, 0, csr0l_of(v)),
+        5 => stores::flush_csr0h(w, list, 0),
+        6 => stores::write_txcsrl(w, list, 0, txcsrl_of(v)),
+        7 => stores::write_rxcsrl(w, list, 0, rxcsrl_of(v)),
+        14 => stores::write_intrusbe(w, list, 0),
+        15 => stores::write_packet(w, list, 0, v),
+        _ => 0,
     }
 }
 
-fn changed(code: u8, e: u8, v: u16, r: Regs, list: &mut [u16]) -> Logged
+fn changed(w: &mut [u16; 46], list: &mut [u16], code: u8, e: u8, v: u16) -> usize
     requires { ⌜ 3 ≤ length (now list) ⌝ }
-    ensures { λ o. ⌜ o .n ≤ 1 ⌝ }
+    ensures { λ n. ⌜ n ≤ 1 ⌝ }
 {
     let d = side(code);
     match code {
-        8 | 9 => stores::write_iso(r, list, 0, d),
-        10 | 11 => stores::write_maxp(r, list, 0, d, v),
-        12 | 13 => stores::write_intre(r, list, 0, d, v),
-        16 | 17 => stores::modify_intre(r, list, 0, d, e % 16),
-        18..=22 => stores::modify_csr0l(r, list, 0, csr0l_change(code)),
-        23..=25 => stores::modify_txcsrl(r, list, 0, txcsrl_change(code)),
-        26..=28 => stores::modify_rxcsrl(r, list, 0, rxcsrl_change(code)),
-        _ => stored(code, e, v, r, list),
+        8 | 9 => stores::write_iso(w, list, 0, d),
+        10 | 11 => stores::write_maxp(w, list, 0, d, v),
+        12 | 13 => stores::write_intre(w, list, 0, d, v),
+        16 | 17 => stores::modify_intre(w, list, 0, d, e % 16),
+        18..=22 => stores::modify_csr0l(w, list, 0, csr0l_change(code)),
+        23..=25 => stores::modify_txcsrl(w, list, 0, txcsrl_change(code)),
+        26..=28 => stores::modify_rxcsrl(w, list, 0, rxcsrl_change(code)),
+        _ => stored(w, list, code, e, v),
     }
 }
 
@@ -133,74 +132,75 @@ fn least(a: usize, b: usize) -> usize
     if a < b { a } else { b }
 }
 
-// The bytes of a packet: the driver's go to its area, and its store comes after; the host's arrive. One that does not fit changes nothing.
-fn packet(code: u8, e: u8, bytes: &[u8], r: Regs, fifo: &mut [u8]) -> Regs
+// The bytes of the driver's packet go to the selected endpoint's area, and its store comes after. One that does not fit changes nothing.
+fn put_packet(w: &[u16; 46], bytes: &[u8], fifo: &mut [u8])
     requires { ⌜ 1664 ≤ length (now fifo) ⌝ }
 {
-    if code == 15 {
-        let to = board::area(Board::Display, r.index, Direction::In);
-        if bytes.len() <= to.size {
-            fifo::put_bytes(fifo, to, bytes);
-        }
-        return r;
+    let e = w[regs::INDEX];
+    let to = board::area(Board::Display, (e % 256) as u8, Direction::In);
+    if bytes.len() <= to.size {
+        fifo::put_bytes(fifo, to, bytes);
+        return;
     }
-    if code == 29 {
-        let to = board::area(Board::Display, e, Direction::Out);
-        if bytes.len() <= to.size {
-            return events::arrive(r, fifo, e % 16, to, bytes);
-        }
-    }
-    r
 }
 
-// The other host events. No event sets SentStall, so it is put up by hand.
-fn happened(code: u8, e: u8, r: Regs) -> Regs {
+// The host's arrives.
+fn arrived(w: &mut [u16; 46], e: u8, bytes: &[u8], fifo: &mut [u8])
+    requires { ⌜ 1664 ≤ length (now fifo) ⌝ }
+{
+    let to = board::area(Board::Display, e, Direction::Out);
+    if bytes.len() <= to.size {
+        events::arrive(w, e % 16, bytes, to, fifo);
+        return;
+    }
+}
+
+fn packet(w: &mut [u16; 46], code: u8, e: u8, bytes: &[u8], fifo: &mut [u8])
+    requires { ⌜ 1664 ≤ length (now fifo) ⌝ }
+{
+    match code {
+        15 => put_packet(w, bytes, fifo),
+        29 => arrived(w, e, bytes, fifo),
+        _ => {}
+    }
+}
+
+// No event sets SentStall, so it is put up by hand.
+fn put_stalled(w: &mut [u16; 46], e: u16, d: Direction) {
+    let mut s = regs::side_at(w, e, d);
+    s.stalled = true;
+    regs::put_side(w, e, d, s);
+}
+
+// The other host events.
+fn happened(w: &mut [u16; 46], code: u8, e: u8) {
     let d = side(code);
     match code {
-        0 => regs::fresh(Board::Display),
-        30 => events::collect(r, e % 16),
-        32 => events::bus_reset(r),
-        33 => events::bus_suspend(r),
-        34 => events::bus_resume(r),
-        35 => events::setup_end(r),
-        36 | 37 => events::miss(r, e, d),
-        38 | 39 => {
-            let mut t = regs::side_at(r, e, d);
-            t.stalled = true;
-            regs::with_side(r, e, d, t)
-        }
-        _ => r,
+        30 => events::collect(w, e % 16),
+        32 => events::bus(w, BusEvent::Reset),
+        33 => events::bus(w, BusEvent::Suspend),
+        34 => events::bus(w, BusEvent::Resume),
+        35 => events::setup_end(w),
+        36 | 37 => events::miss(w, e, d),
+        38 | 39 => put_stalled(w, e as u16, d),
+        _ => {}
     }
-}
-
-fn weight(b: bool, n: u16) -> u16
-    ensures { λ r. ⌜ r ≤ n ⌝ }
-{
-    if b { n } else { 0 }
 }
 
 // What an interrupt register gives.
-fn word(code: u8, r: Regs) -> ReadWord {
+fn word(w: &mut [u16; 46], code: u8) -> u16 {
     match code {
-        40 | 41 => events::read_intr(r, side(code)),
-        42 => {
-            let o = events::read_intrusb(r);
-            let u = o.usb;
-            let q = o.regs;
-            ReadWord {
-                regs: q,
-                word: weight(u.suspend, 1) + weight(u.resume, 2) + weight(u.reset, 4),
-            }
-        }
-        _ => ReadWord { regs: r, word: 0 },
+        40 | 41 => events::read_intr(w, side(code)),
+        42 => events::read_intrusb(w),
+        _ => 0,
     }
 }
 
 // The packet that waits at a side, read into the first v bytes of a buffer.
-fn taken(e: u8, d: Direction, v: u16, r: Regs, fifo: &[u8; 1664]) -> [u8; 8] {
+fn taken(w: &[u16; 46], e: u8, d: Direction, v: u16, fifo: &[u8; 1664]) -> [u8; 8] {
     let mut out = [255u8; 8];
     let from = board::area(Board::Display, e, d);
-    let n = least(events::waiting_len(r, e, d) as usize, from.size);
+    let n = least(events::waiting_len(w, e, d) as usize, from.size);
     let k = least(v as usize, 8);
     fifo::take_bytes(fifo, from, n, &mut out[..k]);
     out
@@ -230,11 +230,11 @@ fn sum(code: u8, b: &[u8; 1664]) -> u32
 }
 
 // The first line of a step: its code and endpoint, a number that it read or the sum, and the bytes that it read.
-fn put_first(code: u8, e: u8, v: u16, word: u16, r: Regs, fifo: &[u8; 1664]) {
+fn put_first(w: &[u16; 46], code: u8, e: u8, v: u16, word: u16, fifo: &[u8; 1664]) {
     let mut line = [0u8; 256];
     let number = word as u32 + sum(code, fifo);
     if (code == 30) | (code == 31) {
-        let out = taken(e, side(code), v, r, fifo);
+        let out = taken(w, e, side(code), v, fifo);
         let n = report::counted_line(&mut line, code, e, number, &out);
         io::write_all(1, &line[..n]);
         return;
@@ -244,17 +244,25 @@ fn put_first(code: u8, e: u8, v: u16, word: u16, r: Regs, fifo: &[u8; 1664]) {
 }
 
 // The two lines of the detail report.
-fn put_details(o: Logged, list: &[u16; 384])
-    requires { ⌜ o .n ≤ 1 ⌝ }
+fn put_details(r: Regs, list: &[u16; 384], n: usize)
+    requires { ⌜ n ≤ 1 ⌝ }
 {
     let mut line = [0u8; 2048];
-    let a = details::stores_line(&mut line, list, o.n);
+    let a = details::stores_line(&mut line, list, n);
     io::write_all(1, &line[..a]);
     let mut k = record::fresh(Board::Display);
-    let r = o.regs;
     k.regs = r;
     let b = details::record_line(&mut line, k);
     io::write_all(1, &line[..b]);
+}
+
+// A case begins with fresh registers.
+fn begun(code: u8, r: Regs) -> Regs {
+    if code == 0 {
+        regs::fresh(Board::Display)
+    } else {
+        r
+    }
 }
 
 // A step of the script, five bytes: the code; an endpoint, or an address; a number, low byte first; a packet's first byte.
@@ -266,12 +274,17 @@ fn act(script: &[u8], at: usize, r: Regs, list: &mut [u16; 384], fifo: &mut [u8;
     let v = wide(script[at + 2]) + 256 * wide(script[at + 3]);
     let from = wide(script[at + 4]) as usize;
     let to = from + least(v as usize, 512);
-    let a = packet(code, e, &script[from..to], r, fifo);
-    let w = word(code, a);
-    put_first(code, e, v, w.word, a, fifo);
-    let o = changed(code, e, v, happened(code, e, w.regs), list);
-    put_details(o, list);
-    o.regs
+    let q = begun(code, r);
+    let b = q.board;
+    let mut w = q.words;
+    packet(&mut w, code, e, &script[from..to], fifo);
+    let number = word(&mut w, code);
+    put_first(&w, code, e, v, number, fifo);
+    happened(&mut w, code, e);
+    let n = changed(&mut w, list, code, e, v);
+    let o = Regs { board: b, words: w };
+    put_details(o, list, n);
+    o
 }
 
 fn main() {

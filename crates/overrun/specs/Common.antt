@@ -1,14 +1,13 @@
 -- What `check_overrun` of the source's common_impl.rs stores, as a step from a Log to a Log over the model's operations.
 -- Assumes nothing.
-use Prim.Native.Nat.{ℕ, _-_}
-use mathlib.Core.Bool.{Bool, _||_, cond}
+use Prim.Native.Nat.{ℕ, zero, suc, _-_}
+use mathlib.Core.Bool.{Bool, false, _||_, cond}
 use mathlib.Core.List.{foldl}
-use lib.ListN.{length}
 use Rattle.laws.specs.Lists.{numbers}
-use Rattle.board.specs.Boards.{rows}
-use Rattle.regs.specs.declared.Regs.{Regs}
+use Rattle.board.specs.declared.Direction.the-variants.{Out, In}
 use Rattle.csr.specs.declared.TxcsrlSet.the-variants as txcsrl
 use Rattle.csr.specs.declared.RxcsrlSet.the-variants as rxcsrl
+use Rattle.regs.specs.Registers.{File, sideAt}
 use Rattle.regs.specs.Control.{txcsrlRead, rxcsrlRead}
 use Rattle.stores.specs.Stores.{Log, writeIndex, modifyTxcsrl, modifyRxcsrl}
 
@@ -19,10 +18,6 @@ underRunCleared g = cond (txcsrlRead (g .regs) .«under_run») (modifyTxcsrl txc
 unfoldable pub overRunCleared : Log → Log
 overRunCleared g = cond (rxcsrlRead (g .regs) .«over_run») (modifyRxcsrl rxcsrl.NoOverRun g) g
 
--- whether the selected endpoint has anything to repair
-unfoldable pub missed : Regs → Bool
-missed r = txcsrlRead r .«under_run» || rxcsrlRead r .«over_run»
-
 unfoldable pub repaired : Log → ℕ → Log
 repaired g e = overRunCleared (underRunCleared (writeIndex e g))
 
@@ -30,5 +25,20 @@ unfoldable pub repairedBelow : ℕ → Log → Log
 repairedBelow count g = foldl repaired g (numbers 1 (count - 1))
 
 -- `check_overrun`: `for index in 1..ENDPOINTS.len()`
-unfoldable pub checkOverrun : Log → Log
-checkOverrun g = repairedBelow (length (rows (g .regs .board))) g
+unfoldable pub checkOverrun : ℕ → Log → Log
+checkOverrun count g = repairedBelow count g
+
+-- whether an endpoint has anything to repair, and whether one of 1 to n has
+unfoldable pub missedAt : File → ℕ → Bool
+missedAt w e = sideAt w e In .missed || sideAt w e Out .missed
+
+unfoldable pub missedTo : ℕ → File → Bool
+missedTo zero w = false
+missedTo (suc n) w = missedTo n w || missedAt w (suc n)
+
+-- the index stores alone: what is left of the loop where nothing is to be repaired (proofs/Missed.antt)
+unfoldable pub selectedOnly : Log → ℕ → Log
+selectedOnly g e = writeIndex e g
+
+unfoldable pub selectedBelow : ℕ → Log → Log
+selectedBelow count g = foldl selectedOnly g (numbers 1 (count - 1))

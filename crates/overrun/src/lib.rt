@@ -1,62 +1,98 @@
 // What the source keeps in its common_impl.rs, third part: the repair of overruns.
-// Each function takes the registers and how many stores stand in the lent list, and gives both back.
+// Each function is lent the register file, takes how many stores stand in the lent list, and gives back how many stand there now.
+use board::Direction;
 use csr::RxcsrlSet;
 use csr::TxcsrlSet;
-use regs::Regs;
-use stores::Logged;
 ghost use mathlib.Core.Path.{_≡_};
 ghost use Prim.Native.Nat.{_+_, _*_, _≤_};
 ghost use lib.ListN.{length};
-ghost use Rattle.stores.specs.Stores.{log, logOf};
-ghost use Rattle.overrun.specs.Common.{underRunCleared, overRunCleared, checkOverrun};
+ghost use Rattle.stores.specs.Stores.{log};
+ghost use Rattle.overrun.specs.Common.{underRunCleared, overRunCleared, missedAt, missedTo, selectedBelow, repairedBelow, checkOverrun};
 
-fn clear_under_run(r: Regs, list: &mut [u16], n: usize) -> Logged
+fn clear_under_run(w: &mut [u16; 46], list: &mut [u16], n: usize) -> usize
     requires { ⌜ n * 3 + 3 ≤ length (now list) ⌝ }
-    ensures { λ o. ⌜ (logOf o (now (list .exit)) ≡ underRunCleared (log r (now (list .entry)) n)) × (o .n ≤ n + 1) ⌝ }
+    ensures { λ m. ⌜ (log (now (w .exit)) (now (list .exit)) m ≡ underRunCleared (log (now (w .entry)) (now (list .entry)) n)) × (m ≤ n + 1) ⌝ }
 {
-    let w = regs::read_txcsrl(r);
-    if w.under_run {
-        return stores::modify_txcsrl(r, list, n, TxcsrlSet::NoUnderRun);
+    let v = regs::read_txcsrl(w);
+    if v.under_run {
+        return stores::modify_txcsrl(w, list, n, TxcsrlSet::NoUnderRun);
     }
-    Logged { regs: r, n: n }
+    n
 }
 
-fn clear_over_run(r: Regs, list: &mut [u16], n: usize) -> Logged
+fn clear_over_run(w: &mut [u16; 46], list: &mut [u16], n: usize) -> usize
     requires { ⌜ n * 3 + 3 ≤ length (now list) ⌝ }
-    ensures { λ o. ⌜ (logOf o (now (list .exit)) ≡ overRunCleared (log r (now (list .entry)) n)) × (o .n ≤ n + 1) ⌝ }
+    ensures { λ m. ⌜ (log (now (w .exit)) (now (list .exit)) m ≡ overRunCleared (log (now (w .entry)) (now (list .entry)) n)) × (m ≤ n + 1) ⌝ }
 {
-    let w = regs::read_rxcsrl(r);
-    if w.over_run {
-        return stores::modify_rxcsrl(r, list, n, RxcsrlSet::NoOverRun);
+    let v = regs::read_rxcsrl(w);
+    if v.over_run {
+        return stores::modify_rxcsrl(w, list, n, RxcsrlSet::NoOverRun);
     }
-    Logged { regs: r, n: n }
+    n
 }
 
-fn repair(r: Regs, list: &mut [u16], n: usize) -> Logged
+fn repair(w: &mut [u16; 46], list: &mut [u16], n: usize) -> usize
     requires { ⌜ n * 3 + 6 ≤ length (now list) ⌝ }
-    ensures { λ o. ⌜ (logOf o (now (list .exit)) ≡ overRunCleared (underRunCleared (log r (now (list .entry)) n))) × (o .n ≤ n + 2) ⌝ }
+    ensures { λ m. ⌜ (log (now (w .exit)) (now (list .exit)) m ≡ overRunCleared (underRunCleared (log (now (w .entry)) (now (list .entry)) n))) × (m ≤ n + 2) ⌝ }
 {
-    let b = clear_under_run(r, list, n);
-    clear_over_run(b.regs, list, b.n)
+    let a = clear_under_run(w, list, n);
+    clear_over_run(w, list, a)
 }
 
-// Most often nothing is to be repaired, and then the registers stay where they are.
-pub fn check_overrun(r: Regs, list: &mut [u16], n: usize) -> Logged
-    requires { ⌜ n * 3 + 45 ≤ length (now list) ⌝ }
-    ensures { λ o. ⌜ (logOf o (now (list .exit)) ≡ checkOverrun (log r (now (list .entry)) n)) × (o .n ≤ n + 15) ⌝ }
+// Each endpoint is selected, and what it missed is repaired.
+fn repair_each(w: &mut [u16; 46], list: &mut [u16], n: usize, count: u8) -> usize
+    requires { ⌜ (n * 3 + 45 ≤ length (now list)) × (count ≤ 6) ⌝ }
+    ensures { λ m. ⌜ (log (now (w .exit)) (now (list .exit)) m ≡ repairedBelow count (log (now (w .entry)) (now (list .entry)) n)) × (m ≤ n + 15) ⌝ }
 {
-    let board = r.board;
-    let mut s = r;
     let mut m = n;
-    for index in 1..board::endpoints(board) {
-        s = stores::select(s, index);
-        m = stores::note_select(list, m, index);
-        let i = index as usize;
-        if regs::has_missed(s.eps[i]) {
-            let o = repair(s, list, m);
-            s = o.regs;
-            m = o.n;
-        }
+    for index in 1..count {
+        m = stores::write_index(w, list, m, index);
+        m = repair(w, list, m);
     }
-    Logged { regs: s, n: m }
+    m
+}
+
+// The same where nothing is to be repaired.
+fn select_each(w: &mut [u16; 46], list: &mut [u16], n: usize, count: u8) -> usize
+    requires { ⌜ (n * 3 + 45 ≤ length (now list)) × (count ≤ 6) ⌝ }
+    ensures { λ m. ⌜ (log (now (w .exit)) (now (list .exit)) m ≡ selectedBelow count (log (now (w .entry)) (now (list .entry)) n)) × (m ≤ n + 15) ⌝ }
+{
+    let mut m = n;
+    for e in 1..count {
+        m = stores::write_index(w, list, m, e);
+    }
+    m
+}
+
+// UnderRun or OverRun of an endpoint.
+fn has_missed(w: &[u16; 46], e: u16) -> bool
+    ensures { λ b. ⌜ b ≡ missedAt (now (w .entry)) e ⌝ }
+{
+    let tx = regs::side_at(w, e, Direction::In);
+    let rx = regs::side_at(w, e, Direction::Out);
+    tx.missed | rx.missed
+}
+
+// Of any endpoint of 1 to 5. No early end: so the tests are made several at a time.
+fn some_missed(w: &[u16; 46]) -> bool
+    ensures { λ b. ⌜ b ≡ missedTo 5 (now (w .entry)) ⌝ }
+{
+    let mut any = false;
+    let mut e = 0u16;
+    while e < 5 {
+        e += 1;
+        any = any | has_missed(w, e);
+    }
+    any
+}
+
+// Most often nothing is to be repaired.
+pub fn check_overrun(w: &mut [u16; 46], list: &mut [u16], n: usize, count: u8) -> usize
+    requires { ⌜ (n * 3 + 45 ≤ length (now list)) × (count ≤ 6) ⌝ }
+    ensures { λ m. ⌜ (log (now (w .exit)) (now (list .exit)) m ≡ checkOverrun count (log (now (w .entry)) (now (list .entry)) n)) × (m ≤ n + 15) ⌝ }
+{
+    if some_missed(w) {
+        return repair_each(w, list, n, count);
+    }
+    select_each(w, list, n, count)
 }

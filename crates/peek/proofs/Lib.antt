@@ -1,3 +1,3 @@
 pub mod Lent
 pub mod Readings
-pub mod Sides
+pub mod Endings

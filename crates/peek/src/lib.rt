@@ -1,56 +1,81 @@
-// What `write` and `read` have to know before their first store, because a refused call stores nothing: whether enough is lent, and what the
-// registers of an endpoint read once it is selected, while nothing is selected and nothing listed.
+// What `write` and `read` share. Before their first store, because a refused call stores nothing: whether enough is lent, and what the
+// registers of an endpoint read once it is selected, while nothing is selected and nothing listed. Then what their tests come to, what
+// their steps hand on, and the two endings that both have.
+use board::Board;
 use board::Direction;
-use csr::Side;
-use record::Record;
-use regs::Regs;
+use control_state::ControlState;
+use csr::Csr0lSet;
+use record::Flags;
+use record::Refusal;
 ghost use mathlib.Core.Path.{_≡_};
-ghost use Rattle.regs.specs.Registers.{Whole, withIndex, sideAt};
-ghost use Rattle.peek.specs.Peek.{short, txPktRdy, rxPktRdy, rxCount};
+ghost use Prim.Native.Nat.{_+_, _*_, _≤_};
+ghost use lib.ListN.{length};
+ghost use Rattle.stores.specs.Stores.{log};
+ghost use Rattle.peek.specs.Peek.{shortIn, txPktRdy, rxPktRdy, rxCount, afterOf, blocked, ended};
 
-pub fn is_short(k: Record, fifo: usize, list: usize) -> bool
-    ensures { λ b. ⌜ b ≡ short k fifo list ⌝ }
+pub fn is_short(b: Board, fifo: usize, list: usize) -> bool
+    ensures { λ s. ⌜ s ≡ shortIn b fifo list ⌝ }
 {
-    (fifo < record::need(k)) | (list < 384)
+    (fifo < record::need(b)) | (list < record::LIST)
 }
 
-pub fn tx_pkt_rdy(r: Regs, e: u8) -> bool
-    ensures { λ b. ⌜ b ≡ txPktRdy e (withIndex r e) ⌝ }
+pub fn tx_pkt_rdy(w: &[u16; 46], e: u8) -> bool
+    ensures { λ b. ⌜ b ≡ txPktRdy e (now (w .entry)) ⌝ }
 {
-    let s = stores::select(r, e);
-    if e == 0 {
-        let w = regs::read_csr0l(s);
-        return w.tx_pkt_rdy;
+    let s = regs::side_at(w, e as u16, Direction::In);
+    s.ready
+}
+
+pub fn rx_pkt_rdy(w: &[u16; 46], e: u8) -> bool
+    ensures { λ b. ⌜ b ≡ rxPktRdy e (now (w .entry)) ⌝ }
+{
+    let s = regs::side_at(w, e as u16, Direction::Out);
+    s.ready
+}
+
+pub fn rx_count(w: &[u16; 46], e: u8) -> u16
+    ensures { λ n. ⌜ n ≡ rxCount e (now (w .entry)) ⌝ }
+{
+    let s = regs::side_at(w, e as u16, Direction::Out);
+    s.len
+}
+
+// What the tests come to. Blocked is reply 6, the one refusal that stores.
+pub enum Verdict {
+    Clear,
+    Blocked,
+    Refused(Refusal),
+}
+
+// What the steps hand on, besides the registers and the list: how many stores stand in the list, the control state, the flags.
+pub struct Served {
+    pub n: usize,
+    pub control_state: ControlState,
+    pub irq: Flags,
+}
+
+// Reply 6: the endpoint is selected.
+pub fn block(w: &mut [u16; 46], list: &mut [u16], ep: u8, c: ControlState, f: Flags) -> Served
+    requires { ⌜ 3 ≤ length (now list) ⌝ }
+    ensures { λ o. ⌜ afterOf o (now (w .exit)) (now (list .exit)) ≡ blocked ep c f (log (now (w .entry)) (now (list .entry)) 0) ⌝ }
+{
+    let n = stores::write_index(w, list, 0, ep);
+    Served {
+        n: n,
+        control_state: c,
+        irq: f,
     }
-    let w = regs::read_txcsrl(s);
-    w.tx_pkt_rdy
 }
 
-pub fn rx_pkt_rdy(r: Regs, e: u8) -> bool
-    ensures { λ b. ⌜ b ≡ rxPktRdy e (withIndex r e) ⌝ }
+// DataEnd, and then the control state c.
+pub fn end(w: &mut [u16; 46], list: &mut [u16], n: usize, c: ControlState, f: Flags) -> Served
+    requires { ⌜ n * 3 + 3 ≤ length (now list) ⌝ }
+    ensures { λ o. ⌜ afterOf o (now (w .exit)) (now (list .exit)) ≡ ended c f (log (now (w .entry)) (now (list .entry)) n) ⌝ }
 {
-    let s = stores::select(r, e);
-    if e == 0 {
-        let w = regs::read_csr0l(s);
-        return w.rx_pkt_rdy;
+    let m = stores::modify_csr0l(w, list, n, Csr0lSet::DataEnd);
+    Served {
+        n: m,
+        control_state: c,
+        irq: f,
     }
-    let w = regs::read_rxcsrl(s);
-    w.rx_pkt_rdy
-}
-
-pub fn rx_count(r: Regs, e: u8) -> u16
-    ensures { λ n. ⌜ n ≡ rxCount e (withIndex r e) ⌝ }
-{
-    let s = stores::select(r, e);
-    if e == 0 {
-        return regs::read_count0(s);
-    }
-    regs::read_rxcount(s)
-}
-
-// The side of an endpoint, for the stores that change it alone; and that all six endpoints are there.
-pub fn side(r: Regs, e: u8, d: Direction) -> Side
-    ensures { λ s. ⌜ (s ≡ sideAt r e d) × (Whole r) ⌝ }
-{
-    regs::side_at(r, e, d)
 }

@@ -5,13 +5,13 @@ use mathlib.Core.Bool.{Bool, cond}
 use mathlib.Core.List.{List, foldl}
 use lib.Dec.{eqb}
 use Rattle.laws.specs.Words.{clear, setBits}
-use Rattle.regs.specs.declared.Regs.{Regs}
+use Rattle.regs.specs.Registers.{File}
 use Rattle.regs.specs.Control.{csr0lRead, rxcsrlRead}
 use Rattle.stores.specs.Stores.{Log, writeIndex}
 use Rattle.poll_walk.specs.declared.Walked.{Walked}
 
 -- the walk's RxPktRdy, read after the index store: CSR0L's for endpoint 0, RXCSRL's for the others
-unfoldable pub readyAt : ℕ → Regs → Bool
+unfoldable pub readyAt : ℕ → File → Bool
 readyAt e r = cond (eqb e 0) (csr0lRead r .«rx_pkt_rdy») (rxcsrlRead r .«rx_pkt_rdy»)
 
 -- the log and the receive flags on the way
@@ -22,12 +22,12 @@ pub record Walk : Type 0 where
 abbrev pub walk : Log → ℕ → Walk
 walk g out = record { log = g; out = out }
 
-abbrev pub walkOf : Walked → List ℕ → Walk
-walkOf o l = record { log = record { regs = o .regs; list = l; count = o .n }; out = o .out }
+abbrev pub walkOf : Walked → File → List ℕ → Walk
+walkOf o w l = record { log = record { regs = w; list = l; count = o .n }; out = o .out }
 
 -- `IRQ_EP_RX.store(rx_flags & !(1 << index), ..)`: "Each drained flag is cleared from the flags as first read, so one round clears only
 -- the highest drained one."
-unfoldable pub drained : ℕ → ℕ → ℕ → Regs → ℕ
+unfoldable pub drained : ℕ → ℕ → ℕ → File → ℕ
 drained flags out e r = cond (readyAt e r) out (clear flags e)
 
 unfoldable pub visit : ℕ → Walk → ℕ → Walk

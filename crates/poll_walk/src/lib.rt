@@ -1,16 +1,17 @@
 // The walk of `poll` of the source over the receive flags, its `BitIter` as a loop over the lowest set bit.
-use regs::Regs;
+use board::Direction;
 ghost use mathlib.Core.Path.{_≡_};
 ghost use mathlib.Core.Bool.{cond};
 ghost use Prim.Native.Nat.{_+_, _*_, _≤_, _<_};
 ghost use lib.ListN.{length};
 ghost use Rattle.laws.specs.Words.{clear, Lowest};
+ghost use Rattle.board.specs.declared.Direction.the-variants.{Out};
+ghost use Rattle.regs.specs.Registers.{sideAt};
 ghost use Rattle.stores.specs.Stores.{log};
 ghost use Rattle.poll_walk.specs.Round.{walkOf, walked};
 
 // What the walk hands on.
 pub struct Walked {
-    pub regs: Regs,
     pub n: usize,
     pub out: u16,
 }
@@ -41,26 +42,27 @@ fn drain(flags: u16, out: u16, e: u8, ready: bool) -> u16
     without(flags, e)
 }
 
+// RxPktRdy of an endpoint.
+fn received(w: &[u16; 46], e: u8) -> bool
+    ensures { λ b. ⌜ b ≡ sideAt (now (w .entry)) e Out .ready ⌝ }
+{
+    let s = regs::side_at(w, e as u16, Direction::Out);
+    s.ready
+}
+
 // The source's `for index in BitIter(rx_flags)`.
-pub fn walk(flags: u16, r: Regs, list: &mut [u16], n: usize) -> Walked
+pub fn walk(flags: u16, w: &mut [u16; 46], list: &mut [u16], n: usize) -> Walked
     requires { ⌜ (flags < 64) × (n * 3 + 18 ≤ length (now list)) ⌝ }
-    ensures { λ o. ⌜ walkOf o (now (list .exit)) ≡ walked flags (log r (now (list .entry)) n) ⌝ }
+    ensures { λ o. ⌜ walkOf o (now (w .exit)) (now (list .exit)) ≡ walked flags (log (now (w .entry)) (now (list .entry)) n) ⌝ }
 {
     let mut rest = flags;
-    let mut s = r;
     let mut m = n;
     let mut out = flags;
     while rest != 0 {
         let e = lowest(rest);
         rest = without(rest, e);
-        s = stores::select(s, e);
-        m = stores::note_select(list, m, e);
-        let i = e as usize;
-        out = drain(flags, out, e, regs::has_received(s.eps[i]));
+        m = stores::write_index(w, list, m, e);
+        out = drain(flags, out, e, received(w, e));
     }
-    Walked {
-        regs: s,
-        n: m,
-        out: out,
-    }
+    Walked { n: m, out: out }
 }

@@ -6,6 +6,7 @@ use mathlib.Core.List.{List}
 use lib.Dec.{eqb}
 use Rattle.laws.specs.Words.{bit, raised, clear}
 use Rattle.csr.specs.declared.Csr0lSet.the-variants.{ServicedSetupEnd}
+use Rattle.regs.specs.Registers.{File}
 use Rattle.regs.specs.Control.{csr0lRead, count0}
 use Rattle.stores.specs.Stores.{Log, writeIndex, modifyCsr0l}
 use Rattle.control_state.specs.declared.ControlState.{ControlState}
@@ -35,9 +36,9 @@ pub record Round : Type 0 where
 abbrev pub round : Log → ControlState → Flags → Bool → Round
 round g c f s = record { log = g; control = c; irq = f; setup = s }
 
--- what a function of the code gives back, with its list
-abbrev pub roundOf : Progress → List ℕ → Round
-roundOf o l = record { log = record { regs = o .regs; list = l; count = o .n }; control = o .«control_state»; irq = o .irq; setup = o .setup }
+-- what a function of the code gives back, with its registers and its list
+abbrev pub roundOf : Progress → File → List ℕ → Round
+roundOf o w l = record { log = record { regs = w; list = l; count = o .n }; control = o .«control_state»; irq = o .irq; setup = o .setup }
 
 -- `(false, false)`: in DataIn "interrupt generated due to a packet has been transmitted"
 unfoldable pub sentBy : ControlStateEnum → Flags → Flags

@@ -3,7 +3,6 @@ use control_state::ControlState;
 use control_state::ControlStateEnum;
 use csr::Csr0lSet;
 use record::Flags;
-use regs::Regs;
 ghost use mathlib.Core.Path.{_≡_};
 ghost use mathlib.Core.Bool.{true, false};
 ghost use Prim.Native.Nat.{_+_, _*_, _≤_, _<_};
@@ -11,9 +10,8 @@ ghost use lib.ListN.{length};
 ghost use Rattle.stores.specs.Stores.{log};
 ghost use Rattle.poll_zero.specs.Round.{roundOf, sentBy, setupTaken, restarted, cutShort, receivedBy, zeroServed, endpointZero, putBack, acceptStep};
 
-// What the steps of a round hand on.
+// What the steps of a round hand on, besides the registers.
 pub struct Progress {
-    pub regs: Regs,
     pub n: usize,
     pub control_state: ControlState,
     pub irq: Flags,
@@ -41,23 +39,20 @@ fn sent(s: ControlStateEnum, f: Flags) -> Flags
     }
 }
 
-fn take_setup(r: Regs, list: &mut [u16], n: usize, c: ControlState, f: Flags) -> Progress
+fn take_setup(w: &mut [u16; 46], list: &mut [u16], n: usize, c: ControlState, f: Flags) -> Progress
     requires { ⌜ (n * 3 + 3 ≤ length (now list)) × (f .«ep_rx» < 64) ⌝ }
-    ensures { λ o. ⌜ (roundOf o (now (list .exit)) ≡ setupTaken (log r (now (list .entry)) n) c f) × (o .n ≤ n + 1) × (o .irq .«ep_rx» < 64) ⌝ }
+    ensures { λ o. ⌜ (roundOf o (now (w .exit)) (now (list .exit)) ≡ setupTaken (log (now (w .entry)) (now (list .entry)) n) c f) × (o .n ≤ n + 1) × (o .irq .«ep_rx» < 64) ⌝ }
 {
-    if regs::read_count0(r) == 8 {
-        let a = stores::modify_csr0l(r, list, n, Csr0lSet::ServicedSetupEnd);
-        let q = a.regs;
+    if regs::read_count0(w) == 8 {
+        let a = stores::modify_csr0l(w, list, n, Csr0lSet::ServicedSetupEnd);
         return Progress {
-            regs: q,
-            n: a.n,
+            n: a,
             control_state: c.set_state(ControlStateEnum::Setup),
             irq: f,
             setup: true,
         };
     }
     Progress {
-        regs: r,
         n: n,
         control_state: c,
         irq: f,
@@ -65,42 +60,38 @@ fn take_setup(r: Regs, list: &mut [u16], n: usize, c: ControlState, f: Flags) ->
     }
 }
 
-fn restart(r: Regs, list: &mut [u16], n: usize, c: ControlState, f: Flags) -> Progress
+fn restart(w: &mut [u16; 46], list: &mut [u16], n: usize, c: ControlState, f: Flags) -> Progress
     requires { ⌜ (n * 3 + 3 ≤ length (now list)) × (f .«ep_rx» < 64) ⌝ }
-    ensures { λ o. ⌜ (roundOf o (now (list .exit)) ≡ restarted (log r (now (list .entry)) n) c f) × (o .n ≤ n + 1) × (o .irq .«ep_rx» < 64) ⌝ }
+    ensures { λ o. ⌜ (roundOf o (now (w .exit)) (now (list .exit)) ≡ restarted (log (now (w .entry)) (now (list .entry)) n) c f) × (o .n ≤ n + 1) × (o .irq .«ep_rx» < 64) ⌝ }
 {
-    let count = regs::read_count0(r);
-    let a = stores::modify_csr0l(r, list, n, Csr0lSet::ServicedSetupEnd);
-    let q = a.regs;
+    let count = regs::read_count0(w);
+    let a = stores::modify_csr0l(w, list, n, Csr0lSet::ServicedSetupEnd);
     let i = c.set_state(ControlStateEnum::Idle).reset_tx_len();
     if count == 8 {
         return Progress {
-            regs: q,
-            n: a.n,
+            n: a,
             control_state: i.set_state(ControlStateEnum::Setup),
             irq: f,
             setup: true,
         };
     }
     Progress {
-        regs: q,
-        n: a.n,
+        n: a,
         control_state: i,
         irq: f,
         setup: false,
     }
 }
 
-fn cut_short(r: Regs, list: &mut [u16], n: usize, c: ControlState, f: Flags) -> Progress
+fn cut_short(w: &mut [u16; 46], list: &mut [u16], n: usize, c: ControlState, f: Flags) -> Progress
     requires { ⌜ (n * 3 + 3 ≤ length (now list)) × (f .«ep_rx» < 64) ⌝ }
-    ensures { λ o. ⌜ (roundOf o (now (list .exit)) ≡ cutShort (log r (now (list .entry)) n) c f) × (o .n ≤ n + 1) × (o .irq .«ep_rx» < 64) ⌝ }
+    ensures { λ o. ⌜ (roundOf o (now (w .exit)) (now (list .exit)) ≡ cutShort (log (now (w .entry)) (now (list .entry)) n) c f) × (o .n ≤ n + 1) × (o .irq .«ep_rx» < 64) ⌝ }
 {
-    let w = regs::read_csr0l(r);
-    if w.setup_end {
-        return restart(r, list, n, c, f);
+    let v = regs::read_csr0l(w);
+    if v.setup_end {
+        return restart(w, list, n, c, f);
     }
     Progress {
-        regs: r,
         n: n,
         control_state: c,
         irq: f,
@@ -110,32 +101,30 @@ fn cut_short(r: Regs, list: &mut [u16], n: usize, c: ControlState, f: Flags) -> 
 
 // A packet waits at endpoint 0.
 fn receive(
-    s: ControlStateEnum,
-    r: Regs,
+    w: &mut [u16; 46],
     list: &mut [u16],
     n: usize,
+    s: ControlStateEnum,
     c: ControlState,
     f: Flags,
 ) -> Progress
     requires { ⌜ (n * 3 + 3 ≤ length (now list)) × (f .«ep_rx» < 64) ⌝ }
-    ensures { λ o. ⌜ (roundOf o (now (list .exit)) ≡ receivedBy s (log r (now (list .entry)) n) c f) × (o .n ≤ n + 1) × (o .irq .«ep_rx» < 64) ⌝ }
+    ensures { λ o. ⌜ (roundOf o (now (w .exit)) (now (list .exit)) ≡ receivedBy s (log (now (w .entry)) (now (list .entry)) n) c f) × (o .n ≤ n + 1) × (o .irq .«ep_rx» < 64) ⌝ }
 {
     match s {
-        ControlStateEnum::Idle => take_setup(r, list, n, c, f),
+        ControlStateEnum::Idle => take_setup(w, list, n, c, f),
         ControlStateEnum::DataOut => {
             let mut g = f;
             g.ep_rx = laws::raise(f.ep_rx, 0);
             Progress {
-                regs: r,
                 n: n,
                 control_state: c,
                 irq: g,
                 setup: false,
             }
         }
-        ControlStateEnum::DataIn => cut_short(r, list, n, c, f),
+        ControlStateEnum::DataIn => cut_short(w, list, n, c, f),
         _ => Progress {
-            regs: r,
             n: n,
             control_state: c,
             irq: f,
@@ -144,20 +133,19 @@ fn receive(
     }
 }
 
-fn serve_zero(r: Regs, list: &mut [u16], n: usize, c: ControlState, f: Flags) -> Progress
+fn serve_zero(w: &mut [u16; 46], list: &mut [u16], n: usize, c: ControlState, f: Flags) -> Progress
     requires { ⌜ (n * 3 + 3 ≤ length (now list)) × (f .«ep_rx» < 64) ⌝ }
-    ensures { λ o. ⌜ (roundOf o (now (list .exit)) ≡ zeroServed (log r (now (list .entry)) n) c f) × (o .n ≤ n + 1) × (o .irq .«ep_rx» < 64) ⌝ }
+    ensures { λ o. ⌜ (roundOf o (now (w .exit)) (now (list .exit)) ≡ zeroServed (log (now (w .entry)) (now (list .entry)) n) c f) × (o .n ≤ n + 1) × (o .irq .«ep_rx» < 64) ⌝ }
 {
-    let w = regs::read_csr0l(r);
+    let v = regs::read_csr0l(w);
     let mut g = f;
     g.ep0 = false;
     let s = c.get_state();
-    if w.rx_pkt_rdy {
-        return receive(s, r, list, n, c, g);
+    if v.rx_pkt_rdy {
+        return receive(w, list, n, s, c, g);
     }
-    if w.tx_pkt_rdy {
+    if v.tx_pkt_rdy {
         return Progress {
-            regs: r,
             n: n,
             control_state: c,
             irq: g,
@@ -166,7 +154,6 @@ fn serve_zero(r: Regs, list: &mut [u16], n: usize, c: ControlState, f: Flags) ->
     }
     let h = sent(s, g);
     Progress {
-        regs: r,
         n: n,
         control_state: c,
         irq: h,
@@ -174,16 +161,21 @@ fn serve_zero(r: Regs, list: &mut [u16], n: usize, c: ControlState, f: Flags) ->
     }
 }
 
-pub fn endpoint_zero(r: Regs, list: &mut [u16], n: usize, c: ControlState, f: Flags) -> Progress
+pub fn endpoint_zero(
+    w: &mut [u16; 46],
+    list: &mut [u16],
+    n: usize,
+    c: ControlState,
+    f: Flags,
+) -> Progress
     requires { ⌜ (n * 3 + 6 ≤ length (now list)) × (f .«ep_rx» < 64) ⌝ }
-    ensures { λ o. ⌜ (roundOf o (now (list .exit)) ≡ endpointZero (log r (now (list .entry)) n) c f) × (o .n ≤ n + 2) × (o .irq .«ep_rx» < 64) ⌝ }
+    ensures { λ o. ⌜ (roundOf o (now (w .exit)) (now (list .exit)) ≡ endpointZero (log (now (w .entry)) (now (list .entry)) n) c f) × (o .n ≤ n + 2) × (o .irq .«ep_rx» < 64) ⌝ }
 {
     if f.ep0 {
-        let a = stores::write_index(r, list, n, 0);
-        return serve_zero(a.regs, list, a.n, c, f);
+        let a = stores::write_index(w, list, n, 0);
+        return serve_zero(w, list, a, c, f);
     }
     Progress {
-        regs: r,
         n: n,
         control_state: c,
         irq: f,

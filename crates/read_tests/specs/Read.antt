@@ -3,23 +3,24 @@
 use Prim.Native.Nat.{ℕ}
 use mathlib.Core.Bool.{Bool, true, false, not, _&&_, _||_}
 use lib.Dec.{leb, ltb, eqb}
-use Rattle.regs.specs.Registers.{withIndex}
-use Rattle.peek.specs.Peek.{short, rxPktRdy, rxCount}
+use Rattle.board.specs.declared.Board.{Board}
+use Rattle.regs.specs.Registers.{File}
+use Rattle.peek.specs.declared.Verdict.{Verdict}
+use Rattle.peek.specs.declared.Verdict.the-variants as verdict
+use Rattle.peek.specs.Peek.{shortIn, rxPktRdy, rxCount, testsBy}
+use Rattle.control_state.specs.declared.ControlState.{ControlState}
 use Rattle.control_state.specs.declared.ControlStateEnum.{ControlStateEnum}
 use Rattle.control_state.specs.declared.ControlStateEnum.the-variants.{Idle, Setup, DataIn, DataOut, Accepted, NodataPhase}
+use Rattle.record.specs.declared.Flags.{Flags}
 use Rattle.record.specs.declared.Record.{Record}
 use Rattle.record.specs.declared.Refusal.the-variants.{NotReadable, NotSetup}
-use Rattle.record.specs.declared.Entry.{Entry}
-use Rattle.record.specs.declared.Entry.the-variants as entry
-use Rattle.record.specs.Record.{endpointsOf, recordSound, entryBy}
-use Rattle.read_tests.specs.declared.Verdict.{Verdict}
-use Rattle.read_tests.specs.declared.Verdict.the-variants as verdict
+use Rattle.record.specs.Record.{endpointsIn, passes, admissionBy}
 
 -- the tests --------------------------------------------------------------------------------------------------------------------
 
 -- the waiting packet's length: `count0` or `rxcount`, as it reads once the endpoint is selected
 unfoldable pub waiting : Record → ℕ → ℕ
-waiting k ep = rxCount ep (withIndex (k .regs) ep)
+waiting k ep = rxCount ep (k .regs .words)
 
 -- reply 12: "endpoint 0 read outside Setup and DataOut"
 abbrev pub unreadableIn : ControlStateEnum → Bool
@@ -30,8 +31,8 @@ unreadableIn DataOut = false
 unreadableIn Accepted = true
 unreadableIn NodataPhase = true
 
-unfoldable pub notReadable : Record → ℕ → Bool
-notReadable k ep = eqb ep 0 && unreadableIn (k .«control_state» .state)
+unfoldable pub notReadable : ControlState → ℕ → Bool
+notReadable c ep = eqb ep 0 && unreadableIn (c .state)
 
 -- reply 13: "Setup read, packet not 8 bytes or buffer under 8"
 abbrev pub notSetupIn : ControlStateEnum → ℕ → ℕ → Bool
@@ -42,8 +43,8 @@ notSetupIn DataOut n room = false
 notSetupIn Accepted n room = false
 notSetupIn NodataPhase n room = false
 
-unfoldable pub notSetup : Record → ℕ → ℕ → Bool
-notSetup k ep room = eqb ep 0 && notSetupIn (k .«control_state» .state) (waiting k ep) room
+unfoldable pub notSetup : File → ControlState → ℕ → ℕ → Bool
+notSetup w c ep room = eqb ep 0 && notSetupIn (c .state) (rxCount ep w) room
 
 -- "then .. read 6, 12, 13"
 abbrev pub ownTests : Bool → Bool → Bool → Verdict
@@ -53,13 +54,12 @@ ownTests false false true = verdict.Refused NotSetup
 ownTests false false false = verdict.Clear
 
 -- reply 6: "read: RxPktRdy clear", as it reads once the endpoint is selected
-unfoldable pub ownTestsAt : Record → ℕ → ℕ → Verdict
-ownTestsAt k ep room = ownTests (not (rxPktRdy ep (withIndex (k .regs) ep))) (notReadable k ep) (notSetup k ep room)
+unfoldable pub ownTestsAt : File → ControlState → ℕ → ℕ → Verdict
+ownTestsAt w c ep room = ownTests (not (rxPktRdy ep w)) (notReadable c ep) (notSetup w c ep room)
 
 -- "Order: 15, 16, 8, then .."
-abbrev pub testsBy : Entry → Verdict → Verdict
-testsBy entry.Clear own = own
-testsBy (entry.Refused x) own = verdict.Refused x
+unfoldable pub testsIn : Board → File → ControlState → Flags → ℕ → ℕ → ℕ → ℕ → Verdict
+testsIn b w c f ep room fifo list = testsBy (admissionBy (shortIn b fifo list) (passes b w f) (leb (endpointsIn b) ep)) (ownTestsAt w c ep room)
 
 unfoldable pub tests : Record → ℕ → ℕ → ℕ → ℕ → Verdict
-tests k ep room fifo list = testsBy (entryBy (short k fifo list) (recordSound k) (leb (endpointsOf k) ep)) (ownTestsAt k ep room)
+tests k ep room fifo list = testsIn (k .regs .board) (k .regs .words) (k .«control_state») (k .irq) ep room fifo list

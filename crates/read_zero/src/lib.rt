@@ -2,15 +2,16 @@
 use control_state::ControlState;
 use control_state::ControlStateEnum;
 use csr::Csr0lSet;
+use peek::Served;
+use record::Flags;
 use record::Record;
 use record::Refusal;
-use stores::Logged;
 ghost use mathlib.Core.Path.{_≡_};
 ghost use Prim.Native.Nat.{_+_, _*_, _≤_, _<_};
 ghost use lib.ListN.{length, getD};
-ghost use Rattle.record.specs.Record.{withControl};
-ghost use Rattle.stores.specs.Stores.{logOf};
-ghost use Rattle.read_zero.specs.Read.{ran, finished, gotNumber, ended, wLength, wayIn, afterSetup, setUp, rxSize, dataOut, zeroBy, readZero};
+ghost use Rattle.stores.specs.Stores.{log};
+ghost use Rattle.peek.specs.Peek.{afterOf};
+ghost use Rattle.read_zero.specs.Read.{gotNumber, wLength, wayIn, afterSetup, setUp, dataOut, zeroBy, readZero};
 
 pub enum Got {
     // the packet's length, however much of it the buffer holds
@@ -32,37 +33,6 @@ pub fn got_number(a: Got) -> u8
         Got::Done(_) => 0,
         Got::Refused(x) => record::refusal_number(x),
     }
-}
-
-pub fn finish(k: Record, n: usize, last: Logged) -> Fetched
-    ensures { λ o. ⌜ o ≡ finished n k (last .regs) (last .n) ⌝ }
-{
-    let q = last.regs;
-    let mut out = k;
-    out.regs = q;
-    Fetched {
-        answer: Got::Done(n),
-        record: out,
-        stores: last.n,
-    }
-}
-
-fn with_control(k: Record, c: ControlState) -> Record
-    ensures { λ o. ⌜ o ≡ withControl k c ⌝ }
-{
-    let mut out = k;
-    out.control_state = c;
-    out
-}
-
-// DataEnd, and the control state c.
-fn end(k: Record, c: ControlState, n: usize, a: Logged, list: &mut [u16]) -> Fetched
-    requires { ⌜ a .n * 3 + 3 ≤ length (now list) ⌝ }
-    ensures { λ o. ⌜ ran o (now (list .exit)) ≡ ended c n k (logOf a (now (list .entry))) ⌝ }
-{
-    let b = stores::modify_csr0l(a.regs, list, a.n, Csr0lSet::DataEnd);
-    let out = with_control(k, c);
-    finish(out, n, b)
 }
 
 fn wide(x: u8) -> u16
@@ -106,64 +76,94 @@ fn after_setup(c: ControlState, to_host: bool, n: u16) -> ControlState
     c.set_state(ControlStateEnum::DataOut)
 }
 
-fn set_up(k: Record, n: usize, a: Logged, list: &mut [u16], buf: &[u8]) -> Fetched
-    requires { ⌜ a .n * 3 + 3 ≤ length (now list) ⌝ }
-    ensures { λ o. ⌜ ran o (now (list .exit)) ≡ setUp (now (buf .entry)) n k (logOf a (now (list .entry))) ⌝ }
+// No store more.
+fn leave(n: usize, c: ControlState, f: Flags) -> Served
+    ensures { λ o. ⌜ o ≡ record { n = n; «control_state» = c; irq = f } ⌝ }
 {
-    let c = k.control_state;
+    Served {
+        n: n,
+        control_state: c,
+        irq: f,
+    }
+}
+
+fn set_up(
+    w: &mut [u16; 46],
+    list: &mut [u16],
+    n: usize,
+    c: ControlState,
+    f: Flags,
+    buf: &[u8],
+) -> Served
+    requires { ⌜ n * 3 + 3 ≤ length (now list) ⌝ }
+    ensures { λ o. ⌜ afterOf o (now (w .exit)) (now (list .exit)) ≡ setUp (now (buf .entry)) c f (log (now (w .entry)) (now (list .entry)) n) ⌝ }
+{
     let to_host = way_in(buf);
     let length = w_length(buf);
     if length == 0 {
-        let none = c.set_state(ControlStateEnum::NodataPhase);
-        return end(k, none, n, a, list);
+        return peek::end(w, list, n, c.set_state(ControlStateEnum::NodataPhase), f);
     }
-    let next = after_setup(c, to_host, length);
-    let out = with_control(k, next);
-    finish(out, n, a)
+    leave(n, after_setup(c, to_host, length), f)
 }
 
-fn rx_size(k: Record) -> usize
-    ensures { λ n. ⌜ n ≡ rxSize k ⌝ }
+// Was the packet the last? It has `count` bytes, and `size` is endpoint 0's recorded receive size.
+fn data_out(
+    w: &mut [u16; 46],
+    list: &mut [u16],
+    n: usize,
+    c: ControlState,
+    f: Flags,
+    count: usize,
+    size: usize,
+) -> Served
+    requires { ⌜ n * 3 + 3 ≤ length (now list) ⌝ }
+    ensures { λ o. ⌜ afterOf o (now (w .exit)) (now (list .exit)) ≡ dataOut count size c f (log (now (w .entry)) (now (list .entry)) n) ⌝ }
 {
-    let es = k.endpoints;
-    let e = es[0];
-    let conf = e.ep_conf;
-    conf.rx_max_packet_size as usize
-}
-
-fn data_out(k: Record, n: usize, a: Logged, list: &mut [u16]) -> Fetched
-    requires { ⌜ a .n * 3 + 3 ≤ length (now list) ⌝ }
-    ensures { λ o. ⌜ ran o (now (list .exit)) ≡ dataOut n k (logOf a (now (list .entry))) ⌝ }
-{
-    if n < rx_size(k) {
-        let c = k.control_state;
-        let idle = c.set_state(ControlStateEnum::Idle);
-        return end(k, idle, n, a, list);
+    if count < size {
+        return peek::end(w, list, n, c.set_state(ControlStateEnum::Idle), f);
     }
-    finish(k, n, a)
+    leave(n, c, f)
 }
 
 // Endpoint 0, by its state. Of the last four none comes here: they are refused before.
-fn zero_by(k: Record, n: usize, a: Logged, list: &mut [u16], buf: &[u8]) -> Fetched
-    requires { ⌜ a .n * 3 + 3 ≤ length (now list) ⌝ }
-    ensures { λ o. ⌜ ran o (now (list .exit)) ≡ zeroBy (k .«control_state» .state) (now (buf .entry)) n k (logOf a (now (list .entry))) ⌝ }
+fn zero_by(
+    w: &mut [u16; 46],
+    list: &mut [u16],
+    n: usize,
+    c: ControlState,
+    f: Flags,
+    count: usize,
+    size: usize,
+    buf: &[u8],
+) -> Served
+    requires { ⌜ n * 3 + 3 ≤ length (now list) ⌝ }
+    ensures { λ o. ⌜ afterOf o (now (w .exit)) (now (list .exit)) ≡ zeroBy (c .state) (now (buf .entry)) count size c f (log (now (w .entry)) (now (list .entry)) n) ⌝ }
 {
-    let c = k.control_state;
     let s = c.state;
     match s {
-        ControlStateEnum::Setup => set_up(k, n, a, list, buf),
-        ControlStateEnum::DataOut => data_out(k, n, a, list),
-        ControlStateEnum::Idle => finish(k, n, a),
-        ControlStateEnum::DataIn => finish(k, n, a),
-        ControlStateEnum::Accepted => finish(k, n, a),
-        ControlStateEnum::NodataPhase => finish(k, n, a),
+        ControlStateEnum::Setup => set_up(w, list, n, c, f, buf),
+        ControlStateEnum::DataOut => data_out(w, list, n, c, f, count, size),
+        ControlStateEnum::Idle => leave(n, c, f),
+        ControlStateEnum::DataIn => leave(n, c, f),
+        ControlStateEnum::Accepted => leave(n, c, f),
+        ControlStateEnum::NodataPhase => leave(n, c, f),
     }
 }
 
-pub fn read_zero(k: Record, n: usize, a: Logged, list: &mut [u16], buf: &[u8]) -> Fetched
-    requires { ⌜ a .n * 3 + 6 ≤ length (now list) ⌝ }
-    ensures { λ o. ⌜ ran o (now (list .exit)) ≡ readZero (now (buf .entry)) n k (logOf a (now (list .entry))) ⌝ }
+// The packet is in the buffer: the endpoint is free for the next.
+pub fn read_zero(
+    w: &mut [u16; 46],
+    list: &mut [u16],
+    n: usize,
+    c: ControlState,
+    f: Flags,
+    count: usize,
+    size: usize,
+    buf: &[u8],
+) -> Served
+    requires { ⌜ n * 3 + 6 ≤ length (now list) ⌝ }
+    ensures { λ o. ⌜ afterOf o (now (w .exit)) (now (list .exit)) ≡ readZero (now (buf .entry)) count size c f (log (now (w .entry)) (now (list .entry)) n) ⌝ }
 {
-    let b = stores::modify_csr0l(a.regs, list, a.n, Csr0lSet::ServicedRxPktRdy);
-    zero_by(k, n, b, list, buf)
+    let m = stores::modify_csr0l(w, list, n, Csr0lSet::ServicedRxPktRdy);
+    zero_by(w, list, m, c, f, count, size, buf)
 }

@@ -7,18 +7,19 @@ use lib.ListN.{getD, List·getD-eq-default}
 use Rattle.board.specs.declared.Row.{Row}
 use Rattle.board.specs.declared.Direction.{Direction}
 use Rattle.board.specs.declared.Direction.the-variants.{Out, In}
+use Rattle.board.specs.Table as table
 use Rattle.board.specs.Table.{none, roomOf, place, Disjoint}
 use Rattle.board.specs.Boards.{rows, at-most-six}
 use Rattle.board.proofs.Areas.{within, share-none, place-past}
 use Rattle.record.specs.declared.Record.{Record}
-use Rattle.record.specs.Record.{areaOf, needOf, sizesOf}
+use Rattle.record.specs.Record.{areaIn, areaOf, needIn, needOf, sizesOf}
 
 pub area-within : (k : Record) (e : ℕ) (d : Direction) → areaOf k e d .start + areaOf k e d .size ≤ needOf k
-unfolding areaOf needOf
+unfolding areaIn areaOf needIn needOf
 area-within k e d = within (rows (k .regs .board)) e d
 
 pub areas-apart : (k : Record) (e f : ℕ) (d c : Direction) → (place e d ≡ place f c → ⊥) → Disjoint (areaOf k e d) (areaOf k f c)
-unfolding areaOf
+unfolding areaIn areaOf
 areas-apart k e f d c n = share-none (rows (k .regs .board)) e f d c n
 
 -- past the last endpoint an area has no room
@@ -27,17 +28,17 @@ no-room Out = refl
 no-room In = refl
 
 past-room : (k : Record) (e : ℕ) (d : Direction) → 6 ≤ e → areaOf k e d .size ≡ 0
-unfolding areaOf
+unfolding areaIn areaOf
 past-room k e d h =
     ap (λ (r : Row). roomOf r d) (List·getD-eq-default (rows (k .regs .board)) none (le-trans (at-most-six (k .regs .board)) h)) ∙ no-room d
 
 -- the list of sizes has each area's at its place
 past-size : (k : Record) (e : ℕ) (d : Direction) → 6 ≤ e → getD (sizesOf k) (place e d) 0 ≡ 0
-unfolding sizesOf
+unfolding table.sizesOf areaIn areaOf
 past-size k e d h = List·getD-eq-default (sizesOf k) 0 (place-past e 6 d h)
 
 pub size-at : (k : Record) (e : ℕ) (d : Direction) → getD (sizesOf k) (place e d) 0 ≡ areaOf k e d .size
-unfolding sizesOf
+unfolding table.sizesOf areaIn areaOf
 size-at k zero Out = refl
 size-at k zero In = refl
 size-at k (suc zero) Out = refl

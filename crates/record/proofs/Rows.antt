@@ -7,9 +7,9 @@ use mathlib.Core.List.{List, [], _∷_}
 use native.Mathlib.Omega.{arith}
 use Rattle.record.specs.declared.Refusal.{Refusal}
 use Rattle.record.specs.declared.Refusal.the-variants.{NoSuchEndpoint, TooLittleLent, BadRecord}
-use Rattle.record.specs.declared.Entry.{Entry}
-use Rattle.record.specs.declared.Entry.the-variants.{Clear, Refused}
-use Rattle.record.specs.Record.{entryBy}
+use Rattle.record.specs.declared.Admission.{Admission}
+use Rattle.record.specs.declared.Admission.the-variants.{Clear, Refused}
+use Rattle.record.specs.Record.{admissionBy}
 
 -- a reply, and whether what its row says holds
 pub record Row : Type 0 where
@@ -19,7 +19,7 @@ pub record Row : Type 0 where
 abbrev pub row : Refusal → Bool → Row
 row x b = record { reply = x; holds = b }
 
-abbrev pub first : List Row → Entry
+abbrev pub first : List Row → Admission
 first [] = Clear
 first (r ∷ rs) = cond (r .holds) (Refused (r .reply)) (first rs)
 
@@ -71,39 +71,39 @@ pub clear-exactly : (rs : List Row) → first rs ≡ Clear ↔ None rs
 clear-exactly rs = (to-none rs, from-none rs)
 
 -- the first tests, then a call's own
-abbrev pub then : Entry → Entry → Entry
+abbrev pub then : Admission → Admission → Admission
 then (Refused x) own = Refused x
 then Clear own = own
 
-pub alone : (t : Entry) → t ≡ then t (first [])
+pub alone : (t : Admission) → t ≡ then t (first [])
 alone (Refused x) = refl
 alone Clear = refl
 
 -- "Order: 15, 16, 8": where memory is lent and an endpoint named; where only the one or the other; and where neither
 module _ (own : List Row) where
   pub rows-at : (short passes beyond : Bool)
-      → then (entryBy short passes beyond) (first own) ≡ first (row TooLittleLent short ∷ row BadRecord (not passes) ∷ row NoSuchEndpoint beyond ∷ own)
+      → then (admissionBy short passes beyond) (first own) ≡ first (row TooLittleLent short ∷ row BadRecord (not passes) ∷ row NoSuchEndpoint beyond ∷ own)
   rows-at true p b = refl
   rows-at false false b = refl
   rows-at false true true = refl
   rows-at false true false = refl
 
-  pub rows-lent : (short passes : Bool) → then (entryBy short passes false) (first own) ≡ first (row TooLittleLent short ∷ row BadRecord (not passes) ∷ own)
+  pub rows-lent : (short passes : Bool) → then (admissionBy short passes false) (first own) ≡ first (row TooLittleLent short ∷ row BadRecord (not passes) ∷ own)
   rows-lent true p = refl
   rows-lent false false = refl
   rows-lent false true = refl
 
-  pub rows-named : (passes beyond : Bool) → then (entryBy false passes beyond) (first own) ≡ first (row BadRecord (not passes) ∷ row NoSuchEndpoint beyond ∷ own)
+  pub rows-named : (passes beyond : Bool) → then (admissionBy false passes beyond) (first own) ≡ first (row BadRecord (not passes) ∷ row NoSuchEndpoint beyond ∷ own)
   rows-named false b = refl
   rows-named true true = refl
   rows-named true false = refl
 
-  pub rows-plain : (passes : Bool) → then (entryBy false passes false) (first own) ≡ first (row BadRecord (not passes) ∷ own)
+  pub rows-plain : (passes : Bool) → then (admissionBy false passes false) (first own) ≡ first (row BadRecord (not passes) ∷ own)
   rows-plain false = refl
   rows-plain true = refl
 
 -- where the first tests refuse nothing, none of them holds
-pub none-refused : (s p b : Bool) → entryBy s p b ≡ Clear → (s ≡ false) × (p ≡ true) × (b ≡ false)
+pub none-refused : (s p b : Bool) → admissionBy s p b ≡ Clear → (s ≡ false) × (p ≡ true) × (b ≡ false)
 none-refused true p b e = unlike e
 none-refused false false b e = unlike e
 none-refused false true true e = unlike e

@@ -2,28 +2,27 @@
 -- Assumes nothing.
 use Prim.Native.Nat.{ℕ, _^_, _<_}
 use mathlib.Core.Bool.{Bool, true, false}
-use mathlib.Core.List.{List, [], _∷_}
+use mathlib.Core.List.{List}
 use lib.Dec.{ltb}
 use lib.ListN.{length, replicate}
 use Rattle.laws.specs.Tests.{_also_}
 use Rattle.board.specs.declared.Board.{Board}
 use Rattle.board.specs.declared.Direction.{Direction}
-use Rattle.board.specs.declared.Direction.the-variants.{Out, In}
 use Rattle.board.specs.declared.Span.{Span}
+use Rattle.board.specs.Table as table
 use Rattle.board.specs.Table.{areaAt, total}
 use Rattle.board.specs.Boards.{rows}
-use Rattle.regs.specs.Registers.{freshRegs}
+use Rattle.regs.specs.Registers.{File, freshRegs}
 use Rattle.regs.specs.Sound.{regsSound, Sound}
 use Rattle.endpoints.specs.Endpoints.{fresh}
 use Rattle.control_state.specs.Control.{idle}
-use Rattle.regs.specs.declared.Regs.{Regs}
 use Rattle.endpoints.specs.declared.EndpointData.{EndpointData}
 use Rattle.control_state.specs.declared.ControlState.{ControlState}
 use Rattle.record.specs.declared.Flags.{Flags}
 use Rattle.record.specs.declared.Refusal.{Refusal}
 use Rattle.record.specs.declared.Refusal.the-variants.{WouldBlock, Unsupported, NoSuchEndpoint, TooLong, NotWritable, NotReadable, NotSetup, BadAddress, TooLittleLent, BadRecord, OutOfTurn}
-use Rattle.record.specs.declared.Entry.{Entry}
-use Rattle.record.specs.declared.Entry.the-variants.{Clear, Refused}
+use Rattle.record.specs.declared.Admission.{Admission}
+use Rattle.record.specs.declared.Admission.the-variants.{Clear, Refused}
 use Rattle.record.specs.declared.Record.{Record}
 
 -- "A fresh record: registers 0, nothing waiting, endpoints unused, Bulk, sizes 0, Idle, nothing remaining, flags down."
@@ -34,41 +33,50 @@ unfoldable pub freshRecord : Board → Record
 freshRecord b = record { regs = freshRegs b; endpoints = replicate 6 fresh; «control_state» = idle; irq = noFlags }
 
 -- where an endpoint's area lies in the FIFO buffer, and how long that must be: of the board's table
+unfoldable pub areaIn : Board → ℕ → Direction → Span
+areaIn b e d = areaAt (rows b) e d
+
 unfoldable pub areaOf : Record → ℕ → Direction → Span
-areaOf k e d = areaAt (rows (k .regs .board)) e d
+areaOf k e d = areaIn (k .regs .board) e d
+
+unfoldable pub needIn : Board → ℕ
+needIn b = total (rows b)
 
 unfoldable pub needOf : Record → ℕ
-needOf k = total (rows (k .regs .board))
+needOf k = needIn (k .regs .board)
+
+-- "The list must hold 128 stores", three numbers each
+abbrev pub listNeed : ℕ
+listNeed = 384
+
+-- how many endpoints the record's board has
+unfoldable pub endpointsIn : Board → ℕ
+endpointsIn b = length (rows b)
+
+unfoldable pub endpointsOf : Record → ℕ
+endpointsOf k = endpointsIn (k .regs .board)
 
 -- the sizes of the areas, in their order
-unfoldable pub sizesOf : Record → List ℕ
-sizesOf k =
-    areaOf k 0 In .size ∷ areaOf k 0 Out .size
-    ∷ areaOf k 1 In .size ∷ areaOf k 1 Out .size
-    ∷ areaOf k 2 In .size ∷ areaOf k 2 Out .size
-    ∷ areaOf k 3 In .size ∷ areaOf k 3 Out .size
-    ∷ areaOf k 4 In .size ∷ areaOf k 4 Out .size
-    ∷ areaOf k 5 In .size ∷ areaOf k 5 Out .size
-    ∷ []
+abbrev pub sizesOf : Record → List ℕ
+sizesOf k = table.sizesOf (rows (k .regs .board))
 
 -- "flag above bit 5": the board's own last endpoint is the highest
 unfoldable pub flagsSound : Board → Flags → Bool
 flagsSound b f = ltb (f .«ep_tx») (2 ^ length (rows b)) also ltb (f .«ep_rx») (2 ^ length (rows b))
 
 -- reply 16 is given exactly when a record does not pass: "record with waiting length over its area or non-zero with its ready bit clear,
--- flag above bit 5, selection over 5, address over 127"
+-- flag above bit 5, selection over 5, address over 127". Only the registers, the flags and the board are looked at.
+unfoldable pub passes : Board → File → Flags → Bool
+passes b w f = regsSound (table.sizesOf (rows b)) (length (rows b)) w also flagsSound b f
+
 unfoldable pub recordSound : Record → Bool
-recordSound k = regsSound (sizesOf k) (k .regs) also flagsSound (k .regs .board) (k .irq)
+recordSound k = passes (k .regs .board) (k .regs .words) (k .irq)
 
 -- what reply 16's test says: proofs/Passing.antt shows that a record passes exactly when it is sound
 pub record SoundRecord (k : Record) : Type 0 where
-  pub regs : Sound (sizesOf k) (k .regs)
+  pub regs : Sound (sizesOf k) (length (rows (k .regs .board))) (k .regs .words)
   pub tx : k .irq .«ep_tx» < 2 ^ length (rows (k .regs .board))
   pub rx : k .irq .«ep_rx» < 2 ^ length (rows (k .regs .board))
-
--- how many endpoints the record's board has
-unfoldable pub endpointsOf : Record → ℕ
-endpointsOf k = length (rows (k .regs .board))
 
 -- document 01's reply numbers
 abbrev pub refusalNumber : Refusal → ℕ
@@ -85,15 +93,15 @@ refusalNumber BadRecord = 16
 refusalNumber OutOfTurn = 17
 
 -- "Order: 15, 16, 8": lent too little, the record does not pass, endpoint beyond the last
-abbrev pub entryBy : Bool → Bool → Bool → Entry
-entryBy true passes beyond = Refused TooLittleLent
-entryBy false false beyond = Refused BadRecord
-entryBy false true true = Refused NoSuchEndpoint
-entryBy false true false = Clear
+abbrev pub admissionBy : Bool → Bool → Bool → Admission
+admissionBy true passes beyond = Refused TooLittleLent
+admissionBy false false beyond = Refused BadRecord
+admissionBy false true true = Refused NoSuchEndpoint
+admissionBy false true false = Clear
 
 -- the record with one part changed
-abbrev pub withRegs : Record → Regs → Record
-withRegs k r = record { regs = r; endpoints = k .endpoints; «control_state» = k .«control_state»; irq = k .irq }
+abbrev pub withRegs : Record → File → Record
+withRegs k w = record { regs = record { board = k .regs .board; words = w }; endpoints = k .endpoints; «control_state» = k .«control_state»; irq = k .irq }
 
 abbrev pub withEndpoints : Record → List EndpointData → Record
 withEndpoints k es = record { regs = k .regs; endpoints = es; «control_state» = k .«control_state»; irq = k .irq }

@@ -8,7 +8,7 @@ use endpoints::EndpointData;
 use regs::Regs;
 ghost use mathlib.Core.Path.{_≡_};
 ghost use Prim.Native.Nat.{_+_, _≤_, _<_};
-ghost use Rattle.record.specs.Record.{freshRecord, areaOf, needOf, sizesOf, flagsSound, recordSound, refusalNumber, entryBy, endpointsOf};
+ghost use Rattle.record.specs.Record.{freshRecord, areaIn, needIn, flagsSound, passes, refusalNumber, admissionBy, endpointsIn};
 
 // The source's atomics IRQ_RESET, IRQ_SUSPEND, IRQ_RESUME, IRQ_EP0, IRQ_EP_TX and IRQ_EP_RX.
 pub struct Flags {
@@ -72,7 +72,7 @@ pub fn refusal_number(x: Refusal) -> u8
 }
 
 // What every call tests first.
-pub enum Entry {
+pub enum Admission {
     Clear,
     Refused(Refusal),
 }
@@ -100,48 +100,27 @@ pub fn fresh(b: Board) -> Record
 }
 
 // Where an endpoint's area lies is asked here and nowhere else.
-pub fn area(k: Record, e: u8, d: Direction) -> Span
-    ensures { λ s. ⌜ (s ≡ areaOf k e d) × (s .start + s .size ≤ needOf k) × (s .size < 65536) ⌝ }
+pub fn area(b: Board, e: u8, d: Direction) -> Span
+    ensures { λ s. ⌜ (s ≡ areaIn b e d) × (s .start + s .size ≤ needIn b) × (s .size < 65536) ⌝ }
 {
-    let r = k.regs;
-    let b = r.board;
     board::area(b, e, d)
 }
 
 // How many bytes of FIFO memory a call must be lent.
-pub fn need(k: Record) -> usize
-    ensures { λ n. ⌜ n ≡ needOf k ⌝ }
+pub fn need(b: Board) -> usize
+    ensures { λ n. ⌜ n ≡ needIn b ⌝ }
 {
-    let r = k.regs;
-    let b = r.board;
     board::need(b)
 }
 
-fn size(k: Record, e: u8, d: Direction) -> u16
-    ensures { λ n. ⌜ n ≡ areaOf k e d .size ⌝ }
-{
-    let s = area(k, e, d);
-    s.size as u16
-}
+// And how many numbers of a list: it must hold 128 stores, three numbers each.
+pub const LIST: usize = 384;
 
-// The sizes of the areas, in their order.
-fn sizes(k: Record) -> [u16; 12]
-    ensures { λ l. ⌜ l ≡ sizesOf k ⌝ }
+// How many endpoints there are: the bound of every endpoint number.
+pub fn endpoints(b: Board) -> u8
+    ensures { λ n. ⌜ (n ≡ endpointsIn b) × (n ≤ 6) ⌝ }
 {
-    [
-        size(k, 0, Direction::In),
-        size(k, 0, Direction::Out),
-        size(k, 1, Direction::In),
-        size(k, 1, Direction::Out),
-        size(k, 2, Direction::In),
-        size(k, 2, Direction::Out),
-        size(k, 3, Direction::In),
-        size(k, 3, Direction::Out),
-        size(k, 4, Direction::In),
-        size(k, 4, Direction::Out),
-        size(k, 5, Direction::In),
-        size(k, 5, Direction::Out),
-    ]
+    board::endpoints(b)
 }
 
 // No flag above the last endpoint's.
@@ -154,37 +133,25 @@ fn flags_sound(b: Board, f: Flags) -> bool
 }
 
 // Reply 16's test: every call and event that takes a record refuses one that does not pass.
-pub fn sound(k: Record) -> bool
-    ensures { λ r. ⌜ r ≡ recordSound k ⌝ }
+pub fn sound(b: Board, w: &[u16; 46], f: Flags) -> bool
+    ensures { λ r. ⌜ r ≡ passes b (now (w .entry)) f ⌝ }
 {
-    let r = k.regs;
-    let b = r.board;
-    let f = k.irq;
-    let s = sizes(k);
-    regs::sound(r, s) & flags_sound(b, f)
+    let s = board::sizes(b);
+    regs::sound(w, &s, board::endpoints(b)) & flags_sound(b, f)
 }
 
 // The three tests that come first in every call, in their order: 15, 16, 8.
-pub fn admit(short: bool, k: Record, beyond: bool) -> Entry
-    ensures { λ a. ⌜ a ≡ entryBy short (recordSound k) beyond ⌝ }
+pub fn admit(short: bool, b: Board, w: &[u16; 46], f: Flags, beyond: bool) -> Admission
+    ensures { λ a. ⌜ a ≡ admissionBy short (passes b (now (w .entry)) f) beyond ⌝ }
 {
     if short {
-        return Entry::Refused(Refusal::TooLittleLent);
+        return Admission::Refused(Refusal::TooLittleLent);
     }
-    if !sound(k) {
-        return Entry::Refused(Refusal::BadRecord);
+    if !sound(b, w, f) {
+        return Admission::Refused(Refusal::BadRecord);
     }
     if beyond {
-        return Entry::Refused(Refusal::NoSuchEndpoint);
+        return Admission::Refused(Refusal::NoSuchEndpoint);
     }
-    Entry::Clear
-}
-
-// How many endpoints there are: the bound of every endpoint number.
-pub fn endpoints(k: Record) -> u8
-    ensures { λ n. ⌜ (n ≡ endpointsOf k) × (n ≤ 6) ⌝ }
-{
-    let r = k.regs;
-    let b = r.board;
-    board::endpoints(b)
+    Admission::Clear
 }

@@ -3,20 +3,19 @@
 use mathlib.Core.Path.{_≡_, refl}
 use Rattle.laws.proofs.Tests.{and-one, and-self, or-one, or-self}
 use Rattle.board.specs.declared.Direction.the-variants.{Out, In}
-use Rattle.regs.specs.declared.Regs.{Regs}
 use Rattle.csr.specs.declared.Csr0lSet.{Csr0lSet}
 use Rattle.csr.specs.declared.Csr0lSet.the-variants as csr0l
-use Rattle.regs.specs.Registers.{sideAt}
+use Rattle.regs.specs.Registers.{File, sideAt}
 use Rattle.csr.specs.Control.{dropped, csr0lSet, zeroTxStored}
 use Rattle.regs.specs.Control.{csr0lRead}
 use Rattle.csr.proofs.Modified.{readied}
 
 -- CSR0L, on endpoint 0's transmit side: TxPktRdy is set, or nothing changes
-pub zero-readied : (r : Regs) → zeroTxStored (csr0lSet csr0l.TxPktRdy (csr0lRead r)) (sideAt r 0 In) ≡ readied (sideAt r 0 In)
+pub zero-readied : (r : File) → zeroTxStored (csr0lSet csr0l.TxPktRdy (csr0lRead r)) (sideAt r 0 In) ≡ readied (sideAt r 0 In)
 unfolding zeroTxStored csr0lSet csr0lRead
 zero-readied r = rw (or-one (sideAt r 0 In .ready), and-self (sideAt r 0 In .stalled))
 
-pub zero-kept : (r : Regs) (s : Csr0lSet) → (s ≡ csr0l.TxPktRdy → ⊥) → zeroTxStored (csr0lSet s (csr0lRead r)) (sideAt r 0 In) ≡ sideAt r 0 In
+pub zero-kept : (r : File) (s : Csr0lSet) → (s ≡ csr0l.TxPktRdy → ⊥) → zeroTxStored (csr0lSet s (csr0lRead r)) (sideAt r 0 In) ≡ sideAt r 0 In
 unfolding zeroTxStored csr0lSet csr0lRead
 zero-kept r csr0l.TxPktRdy n = absurd (n refl)
 zero-kept r csr0l.DataEnd n = rw (or-self (sideAt r 0 In .ready), and-self (sideAt r 0 In .stalled))
@@ -25,6 +24,6 @@ zero-kept r csr0l.ServicedSetupEnd n = rw (or-self (sideAt r 0 In .ready), and-s
 zero-kept r csr0l.ServicedBoth n = rw (or-self (sideAt r 0 In .ready), and-self (sideAt r 0 In .stalled))
 
 -- and on its receive side: servicing a setup end leaves a packet waiting
-pub zero-still-waits : (r : Regs) → dropped (csr0lSet csr0l.ServicedSetupEnd (csr0lRead r) .«serviced_rx_pkt_rdy») (sideAt r 0 Out) ≡ sideAt r 0 Out
+pub zero-still-waits : (r : File) → dropped (csr0lSet csr0l.ServicedSetupEnd (csr0lRead r) .«serviced_rx_pkt_rdy») (sideAt r 0 Out) ≡ sideAt r 0 Out
 unfolding csr0lSet csr0lRead dropped
 zero-still-waits r = rw (and-one (sideAt r 0 Out .ready))

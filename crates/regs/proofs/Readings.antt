@@ -2,15 +2,21 @@
 -- Assumes nothing.
 use Prim.Native.Nat.{ℕ}
 use mathlib.Core.Path.{_≡_, refl}
+use mathlib.Core.Bool.{Bool, true, false, cond}
+use mathlib.Core.List.{[], _∷_}
+use native.Mathlib.Omega.{arith}
+use lib.Dec.{ltb}
+use lib.Seq.{getD-set-same}
+use Rattle.laws.specs.Words.{bit}
 use Rattle.board.specs.declared.Direction.{Direction}
 use Rattle.board.specs.declared.Direction.the-variants.{Out, In}
-use Rattle.regs.specs.declared.Regs.{Regs}
-use Rattle.regs.specs.Registers.{sideAt, withIndex, chosen}
+use Rattle.csr.specs.Registers.{noSide}
+use Rattle.regs.specs.Registers.{File, Whole, sideOf, sideIn, sideAt, index, withIndex, chosen, setupend}
 use Rattle.regs.specs.Control.{csr0lRead, txcsrlRead, rxcsrlRead, count0, rxcount}
 use Rattle.csr.specs.Control.{txcsrlOf, rxcsrlOf}
-use Rattle.regs.proofs.Sides.{by-eps}
+use Rattle.regs.proofs.Sides.{set-keeps}
 
-module _ (r : Regs) where
+module _ (r : File) where
   pub zero-tx-ready : csr0lRead r .«tx_pkt_rdy» ≡ sideAt r 0 In .ready
   unfolding csr0lRead
   zero-tx-ready = refl
@@ -43,6 +49,25 @@ module _ (r : Regs) where
   unfolding rxcount
   rx-count = refl
 
+  pub zero-ended : csr0lRead r .«setup_end» ≡ setupend r
+  unfolding csr0lRead
+  zero-ended = refl
+
 -- selecting an endpoint changes no side
-pub reselected : (r : Regs) (i e : ℕ) (d : Direction) → sideAt (withIndex r i) e d ≡ sideAt r e d
-reselected r i e d = by-eps (withIndex r i) r e d refl
+pub reselected : (r : File) (i e : ℕ) (d : Direction) → sideAt (withIndex r i) e d ≡ sideAt r e d
+unfolding withIndex
+reselected r i e d = set-keeps r 0 i e d (omega arith)
+
+pub selected : (r : File) (i : ℕ) → Whole r → index (withIndex r i) ≡ i
+unfolding index withIndex
+selected r i k = getD-set-same r 0 i 0 (omega arith)
+
+-- so the selected side is that of the endpoint; a list with no number at all has nothing at any side, so that this asks no length
+pub chosen-selected : (w : File) (e : ℕ) (d : Direction) → chosen (withIndex w e) d ≡ sideAt (withIndex w e) e d
+unfolding index withIndex sideAt sideIn sideOf bit
+chosen-selected (x ∷ w) e d = refl
+chosen-selected [] e d = go (ltb e 6)
+  where
+    go : (b : Bool) → noSide ≡ cond b noSide noSide
+    go true = refl
+    go false = refl

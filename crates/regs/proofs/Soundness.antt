@@ -1,101 +1,177 @@
--- The register part of reply 16's test: the loop's step, and what a record that passes it says of each side. Assumes nothing.
+-- The register part of reply 16's test: the loop's step, and what a file that passes it says of each side.
+-- Assumes nothing.
 use Prim.Native.Nat.{ℕ, zero, suc, _+_, _*_, _<_, _≤_}
-use mathlib.Core.Path.{_≡_, refl}
-use mathlib.Core.Bool.{Bool, true, false}
+use mathlib.Core.Path.{_≡_, refl, ap, sym, _∙_}
+use mathlib.Core.Bool.{Bool, true, false, cond}
 use mathlib.Core.Logic.{_⊎_, inl, inr}
-use mathlib.Core.List.{List, [], _∷_}
-use native.Mathlib.Nat.{add-zero}
+use mathlib.Core.List.{List}
+use native.Mathlib.Decide.{ℕ-discrete, decLe}
+use native.Mathlib.Nat.{lt-of-not-le}
 use native.Mathlib.Omega.{arith}
-use native.Mathlib.Numerals.{add-one}
 use borrow.Author.Tests.{leb-true, le-leb, ltb-true, lt-ltb}
-use lib.ListN.{length, getD, drop, drop-of-length-le}
-use lib.Seq.{drop-cons, drop-drop, getD-drop}
+use lib.Dec.{lit<, lit≤}
+use lib.ListN.{length, getD, set}
+use lib.Seq.{getD-set-same, getD-set-other}
 use Rattle.laws.specs.Tests.{_also_}
 use Rattle.laws.proofs.Tests.{also-left, also-right, also-both}
 use Rattle.board.specs.Table.{place}
 use Rattle.board.specs.declared.Direction.{Direction}
 use Rattle.board.specs.declared.Direction.the-variants.{Out, In}
 use Rattle.csr.specs.declared.Side.{Side}
-use Rattle.regs.specs.declared.Ep.{Ep}
-use Rattle.regs.specs.declared.Regs.{Regs}
-use Rattle.regs.specs.Registers.{noEp, sideOf, sideAt, withSide}
-use Rattle.csr.specs.Sound.{SideOk}
-use Rattle.regs.specs.Sound.{epSound, sidesSound, regsSound, Sound}
-use Rattle.regs.proofs.Sides.{side-either, keeps-index, keeps-faddr, keeps-board}
-use Rattle.csr.proofs.Soundness.{side-ok, side-test, none-ok, later}
+use Rattle.csr.specs.declared.Csr0l.{Csr0l}
+use Rattle.csr.specs.Control.{zeroTxStored, dropped}
+use Rattle.csr.specs.Sound.{sideSound, SideOk}
+use Rattle.regs.specs.Control.{csr0lStored, csr0hFlushed}
+use Rattle.csr.proofs.Soundness.{side-ok, side-test, none-ok}
+use Rattle.regs.specs.Registers.{File, Whole, freshFile, index, faddr, sideIn, sideAt, withSide, withSideIn, sideWord, withSetupend}
+use Rattle.regs.specs.Sound.{placeSound, soundBelow, regsSound, Clean, Sound}
+use Rattle.regs.proofs.Words.{word-lt}
+use Rattle.regs.proofs.Sides.{place-lt, there, past, put-there, unchanged, side-either, word-either, keeps, keeps-length, keeps-index, keeps-faddr, fresh-zero}
 
--- what is left to test, from endpoint i on
-pub rest : List ℕ → List Ep → ℕ → Bool
-rest sizes eps i = sidesSound (drop (2 * i) sizes) (drop i eps)
+-- a turn of the loop
+pub sound-next : (sizes : List ℕ) (w : File) (i : ℕ) → soundBelow sizes w (i + 1) ≡ (soundBelow sizes w i also placeSound (getD sizes i 0) w i)
+unfolding soundBelow
+sound-next sizes w i = let e : i + 1 ≡ suc i = omega arith in ap (soundBelow sizes w) e
 
-pub rest-all : (sizes : List ℕ) (eps : List Ep) → rest sizes eps 0 ≡ sidesSound sizes eps
-unfolding rest
-rest-all sizes eps = refl
+pub sound-none : (sizes : List ℕ) (w : File) → soundBelow sizes w 0 ≡ true
+unfolding soundBelow
+sound-none sizes w = refl
 
-pub rest-step : (sizes : List ℕ) (eps : List Ep) (i : ℕ) → i < length eps
-    → rest sizes eps i ≡ (epSound (getD sizes (2 * i) 0) (getD sizes (2 * i + 1) 0) (getD eps i noEp) also rest sizes eps (i + 1))
-unfolding rest sidesSound
-rest-step sizes eps i h =
-    let two : 2 * i + 2 ≡ 2 * (i + 1) = omega arith in
-    rw (drop-cons eps i noEp h, getD-drop (2 * i) sizes 0 0, getD-drop (2 * i) sizes 1 0, drop-drop 2 (2 * i) sizes, two, add-zero (2 * i), add-one i)
+-- every place below n passes, and the other way about
+at-place : (sizes : List ℕ) (w : File) (n : ℕ) → soundBelow sizes w n ≡ true → (i : ℕ) → i < n → placeSound (getD sizes i 0) w i ≡ true
+unfolding soundBelow
+at-place sizes w zero p i h = absurd (omega arith)
+at-place sizes w (suc n) p i h = go (at-place sizes w n (also-left _ _ p) i) (ℕ-discrete i n)
+  where
+    go : (i < n → placeSound (getD sizes i 0) w i ≡ true) → Dec (i ≡ n) → placeSound (getD sizes i 0) w i ≡ true
+    go below (yes e) = rw e (also-right _ _ p)
+    go below (no e) = below (omega arith)
 
-pub rest-none : (sizes : List ℕ) (eps : List Ep) (i : ℕ) → length eps ≤ i → rest sizes eps i ≡ true
-unfolding rest sidesSound
-rest-none sizes eps i h = rw (drop-of-length-le eps h)
+places : (sizes : List ℕ) (w : File) (n : ℕ) → ((i : ℕ) → i < n → placeSound (getD sizes i 0) w i ≡ true) → soundBelow sizes w n ≡ true
+unfolding soundBelow
+places sizes w zero k = refl
+places sizes w (suc n) k = also-both (places sizes w n (λ i h. k i (omega arith))) (k n (omega arith))
 
--- a turn of the loop, b being the test of endpoint i and w the whole test
-module _ (sizes : List ℕ) (eps : List Ep) (i : ℕ) (w b : Bool) (h : i < length eps) (whole : rest sizes eps i ≡ w)
-    (test : b ≡ epSound (getD sizes (2 * i) 0) (getD sizes (2 * i + 1) 0) (getD eps i noEp)) where
-  pub turn-fails : b ≡ false → false ≡ w
-  unfolding _also_
-  turn-fails e = cc (rest-step sizes eps i h)
+sides-ok : (sizes : List ℕ) (w : File) → soundBelow sizes w 12 ≡ true → (e : ℕ) (d : Direction) → SideOk (getD sizes (place e d) 0) (sideAt w e d)
+unfolding placeSound
+sides-ok sizes w p e d = go (decLe 6 e)
+  where
+    go : Dec (6 ≤ e) → SideOk (getD sizes (place e d) 0) (sideAt w e d)
+    go (yes h) = rw (past w e d h) (none-ok _)
+    go (no h) =
+        let l = lt-of-not-le h in
+        rw (there w e d l) (side-ok _ _ (also-left _ _ (at-place sizes w 12 p (place e d) (place-lt e d l))))
 
-  pub turn-passes : b ≡ true → rest sizes eps (i + 1) ≡ w
-  unfolding _also_
-  turn-passes e = cc (rest-step sizes eps i h)
+-- a place below twelve is that of an endpoint and a direction
+pub record Placed (i : ℕ) : Type 0 where
+  pub e : ℕ
+  pub d : Direction
+  pub below : e < 6
+  pub is : i ≡ place e d
 
-abbrev AllOk : List ℕ → List Ep → Type 0
-AllOk sizes eps = (e : ℕ) (d : Direction) → SideOk (getD sizes (place e d) 0) (sideOf (getD eps e noEp) d)
+placed : (i : ℕ) → i < 12 → Placed i
+placed zero h = record { e = 0; d = In; below = omega arith; is = refl }
+placed (suc zero) h = record { e = 0; d = Out; below = omega arith; is = refl }
+placed (suc (suc i)) h = up (placed i (omega arith))
+  where
+    moved : (e : ℕ) (d : Direction) → i ≡ place e d → suc (suc i) ≡ place (suc e) d
+    moved e Out p = omega arith
+    moved e In p = omega arith
 
-sides-ok : (sizes : List ℕ) (eps : List Ep) → sidesSound sizes eps ≡ true → AllOk sizes eps
-unfolding sidesSound epSound
-sides-ok sizes [] p e Out = none-ok _
-sides-ok sizes [] p e In = none-ok _
-sides-ok sizes (x ∷ xs) p zero Out = side-ok _ _ (also-right _ _ (also-left _ _ p))
-sides-ok sizes (x ∷ xs) p zero In = side-ok _ _ (also-left _ _ (also-left _ _ p))
-sides-ok sizes (x ∷ xs) p (suc e) d = rw (← later sizes e d) (sides-ok (drop 2 sizes) xs (also-right _ _ p) e d)
-
-sides-test : (sizes : List ℕ) (eps : List Ep) → AllOk sizes eps → sidesSound sizes eps ≡ true
-unfolding sidesSound epSound
-sides-test sizes [] k = refl
-sides-test sizes (x ∷ xs) k =
-    also-both (also-both (side-test _ _ (k 0 In)) (side-test _ _ (k 0 Out)))
-    (sides-test (drop 2 sizes) xs (λ (e : ℕ) (d : Direction). rw (later sizes e d) (k (suc e) d)))
+    up : Placed i → Placed (suc (suc i))
+    up q = record { e = suc (q .e); d = q .d; below = bound (q .d) (q .is); is = moved (q .e) (q .d) (q .is) }
+      where
+        bound : (d : Direction) → i ≡ place (q .e) d → suc (q .e) < 6
+        bound Out p = omega arith
+        bound In p = omega arith
 
 -- the whole test
-pub is-sound : (sizes : List ℕ) (r : Regs) → regsSound sizes r ≡ true → Sound sizes r
-unfolding regsSound sideAt
-is-sound sizes r p = record {
-  selected = ltb-true _ _ (also-left _ _ (also-left _ _ p));
-  address = leb-true _ _ (also-right _ _ (also-left _ _ p));
-  side = sides-ok sizes (r .eps) (also-right _ _ p);
-}
+module _ (sizes : List ℕ) (count : ℕ) (w : File) where
+  pub is-sound : regsSound sizes count w ≡ true → Sound sizes count w
+  unfolding regsSound placeSound
+  is-sound p = record {
+    selected = ltb-true _ _ (also-left _ _ (also-left _ _ (also-left _ _ p)));
+    address = leb-true _ _ (also-right _ _ (also-left _ _ (also-left _ _ p)));
+    clean = record {
+      ended = leb-true _ _ (also-right _ _ (also-left _ _ p));
+      bits = λ i h. ltb-true _ _ (also-right _ _ (at-place sizes w 12 (also-right _ _ p) i h));
+    };
+    side = sides-ok sizes w (also-right _ _ p);
+  }
 
-pub sound-passes : (sizes : List ℕ) (r : Regs) → Sound sizes r → regsSound sizes r ≡ true
-unfolding regsSound sideAt
-sound-passes sizes r k =
-    also-both (also-both (lt-ltb _ _ (k .selected)) (le-leb _ _ (k .address))) (sides-test sizes (r .eps) (k .side))
+  pub sound-passes : Sound sizes count w → regsSound sizes count w ≡ true
+  unfolding regsSound placeSound
+  sound-passes k =
+      also-both (also-both (also-both (lt-ltb _ _ (k .selected)) (le-leb _ _ (k .address))) (le-leb _ _ (k .clean .ended)))
+      (places sizes w 12 (λ i h. also-both (one i (placed i h)) (lt-ltb _ _ (k .clean .bits i h))))
+    where
+      one : (i : ℕ) → Placed i → sideSound (getD sizes i 0) (sideIn w i) ≡ true
+      one i q = rw (q .is) (rw (← there w (q .e) (q .d) (q .below)) (side-test _ _ (k .side (q .e) (q .d))))
 
--- a side that is changed to a sound one leaves the record sound
-pub sound-side : (sizes : List ℕ) (r : Regs) (e : ℕ) (d : Direction) (s : Side) → Sound sizes r → SideOk (getD sizes (place e d) 0) s
-    → Sound sizes (withSide r e d s)
-sound-side sizes r e d s k ok = record {
-  selected = rw (keeps-index r e d s, keeps-board r e d s) (k .selected);
-  address = rw (keeps-faddr r e d s) (k .address);
-  side = λ (f : ℕ) (c : Direction). go f c (side-either r e d s f c);
+-- a side that is changed leaves the file clean, and so does a number before SetupEnd's
+pub clean-side : (w : File) (e : ℕ) (d : Direction) (s : Side) → Whole w → Clean w → Clean (withSide w e d s)
+clean-side w e d s six k = record {
+  ended = rw (keeps w e d s 9 (omega arith)) (k .ended);
+  bits = λ (i : ℕ) (h : i < 12). bit (decLe 6 e) i h;
 }
   where
-    go : (f : ℕ) (c : Direction) → ((sideAt (withSide r e d s) f c ≡ s) × (f ≡ e) × (c ≡ d)) ⊎ (sideAt (withSide r e d s) f c ≡ sideAt r f c)
-        → SideOk (getD sizes (place f c) 0) (sideAt (withSide r e d s) f c)
+    bit : Dec (6 ≤ e) → (i : ℕ) → i < 12 → getD (withSide w e d s) (10 + i) 0 < 32
+    bit (yes l) i h = rw (unchanged w e d s l) (k .bits i h)
+    bit (no l) i h = rw (put-there w e d s (lt-of-not-le l)) (which (word-either w (place e d) s i (place-lt e d (lt-of-not-le l)) h six))
+      where
+        which : (getD (withSideIn w (place e d) s) (10 + i) 0 ≡ sideWord s) ⊎ (getD (withSideIn w (place e d) s) (10 + i) 0 ≡ getD w (10 + i) 0)
+            → getD (withSideIn w (place e d) s) (10 + i) 0 < 32
+        which (inl p) = rw p (word-lt s)
+        which (inr p) = rw p (k .bits i h)
+
+pub clean-set : (w : File) (q v : ℕ) → q < 9 → Clean w → Clean (set w q v)
+clean-set w q v h k = record {
+  ended = rw (getD-set-other w q 9 v 0 (λ e. omega arith)) (k .ended);
+  bits = λ (i : ℕ) (l : i < 12). rw (getD-set-other w q (10 + i) v 0 (λ e. omega arith)) (k .bits i l);
+}
+
+pub clean-setupend : (w : File) (b : Bool) → Whole w → Clean w → Clean (withSetupend w b)
+unfolding withSetupend
+clean-setupend w b six k = record {
+  ended = rw (getD-set-same w 9 (cond b 1 0) 0 (omega arith)) (one b);
+  bits = λ (i : ℕ) (l : i < 12). rw (getD-set-other w 9 (10 + i) (cond b 1 0) 0 (λ e. omega arith)) (k .bits i l);
+}
+  where
+    one : (b : Bool) → cond b 1 0 ≤ 1
+    one true = omega arith
+    one false = omega arith
+
+-- the two stores to endpoint 0's registers
+pub clean-zero : (v : Csr0l) (w : File) → Whole w → Clean w → Clean (csr0lStored v w)
+unfolding csr0lStored
+clean-zero v w six k =
+    let tx = zeroTxStored v (sideAt w 0 In) in
+    let rx = dropped (v .«serviced_rx_pkt_rdy») (sideAt w 0 Out) in
+    let half = keeps-length w 0 In tx ∙ six in
+    clean-setupend (withSide (withSide w 0 In tx) 0 Out rx) _ (keeps-length (withSide w 0 In tx) 0 Out rx ∙ half)
+    (clean-side (withSide w 0 In tx) 0 Out rx half (clean-side w 0 In tx six k))
+
+pub clean-flush : (w : File) → Whole w → Clean w → Clean (csr0hFlushed w)
+unfolding csr0hFlushed
+clean-flush w six k =
+    let tx = dropped true (sideAt w 0 In) in
+    clean-side (withSide w 0 In tx) 0 Out (dropped true (sideAt w 0 Out)) (keeps-length w 0 In tx ∙ six) (clean-side w 0 In tx six k)
+
+-- a side that is changed to a sound one leaves the file sound
+pub sound-side : (sizes : List ℕ) (n : ℕ) (w : File) (e : ℕ) (d : Direction) (s : Side) → Whole w → Sound sizes n w → SideOk (getD sizes (place e d) 0) s
+    → Sound sizes n (withSide w e d s)
+sound-side sizes n w e d s six k ok = record {
+  selected = rw (keeps-index w e d s) (k .selected);
+  address = rw (keeps-faddr w e d s) (k .address);
+  clean = clean-side w e d s six (k .clean);
+  side = λ (f : ℕ) (c : Direction). go f c (side-either w e d s f c six);
+}
+  where
+    go : (f : ℕ) (c : Direction) → ((sideAt (withSide w e d s) f c ≡ s) × (f ≡ e) × (c ≡ d)) ⊎ (sideAt (withSide w e d s) f c ≡ sideAt w f c)
+        → SideOk (getD sizes (place f c) 0) (sideAt (withSide w e d s) f c)
     go f c (inl (p, q, t)) = rw (p, q, t) ok
     go f c (inr p) = rw p (k .side f c)
+
+-- a fresh file is clean
+pub fresh-clean : Clean freshFile
+fresh-clean = record { ended = rw (fresh-zero 9) (lit≤ tt); bits = λ (i : ℕ) (h : i < 12). rw (fresh-zero (10 + i)) (lit< tt) }

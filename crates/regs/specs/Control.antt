@@ -1,51 +1,50 @@
--- The control registers over the whole record: what CSR0L reads, what stores to CSR0L and CSR0H do, what the selected endpoint's registers
+-- The control registers over the whole file: what CSR0L reads, what stores to CSR0L and CSR0H do, what the selected endpoint's registers
 -- read, and the counts.
 -- Assumes nothing.
 use Prim.Native.Nat.{ℕ}
 use mathlib.Core.Bool.{true, false, not, _&&_}
 use Rattle.board.specs.declared.Direction.the-variants.{Out, In}
-use Rattle.regs.specs.declared.Regs.{Regs}
 use Rattle.csr.specs.declared.Csr0l.{Csr0l}
 use Rattle.csr.specs.declared.Txcsrl.{Txcsrl}
 use Rattle.csr.specs.declared.Rxcsrl.{Rxcsrl}
-use Rattle.regs.specs.Registers.{sideAt, withSide, withSetupend, chosen}
+use Rattle.regs.specs.Registers.{File, sideAt, withSide, setupend, withSetupend, chosen}
 use Rattle.csr.specs.Control.{txcsrlOf, rxcsrlOf, zeroTxStored, dropped}
 
 -- what is read: "DataEnd, Serviced, Flush and ClrDataTog read 0"; "FIFONotEmpty reads as TxPktRdy. FIFOFull and DataError read 0."
-unfoldable pub csr0lRead : Regs → Csr0l
+unfoldable pub csr0lRead : File → Csr0l
 csr0lRead r = record {
   «rx_pkt_rdy» = sideAt r 0 Out .ready;
   «tx_pkt_rdy» = sideAt r 0 In .ready;
   «sent_stall» = sideAt r 0 In .stalled;
   «data_end» = false;
-  «setup_end» = r .setupend;
+  «setup_end» = setupend r;
   «send_stall» = sideAt r 0 In .stall;
   «serviced_rx_pkt_rdy» = false;
   «serviced_setup_end» = false;
 }
 
 -- both are the selected endpoint's
-abbrev pub txcsrlRead : Regs → Txcsrl
+abbrev pub txcsrlRead : File → Txcsrl
 txcsrlRead r = txcsrlOf (chosen r In)
 
-abbrev pub rxcsrlRead : Regs → Rxcsrl
+abbrev pub rxcsrlRead : File → Rxcsrl
 rxcsrlRead r = rxcsrlOf (chosen r Out)
 
 -- "Counts are the waiting packet's length, 0 if none": a length is 0 where no packet waits, or the record is refused (reply 16); that is
 -- `count0-none` and `rxcount-none` of proofs/AsWritten.antt
-unfoldable pub count0 : Regs → ℕ
+unfoldable pub count0 : File → ℕ
 count0 r = sideAt r 0 Out .len
 
-unfoldable pub rxcount : Regs → ℕ
+unfoldable pub rxcount : File → ℕ
 rxcount r = chosen r Out .len
 
 -- "RxPktRdy and SetupEnd of endpoint 0 are cleared only by their Serviced bits or a flush (RxPktRdy)." DataEnd changes nothing.
-unfoldable pub csr0lStored : Csr0l → Regs → Regs
+unfoldable pub csr0lStored : Csr0l → File → File
 csr0lStored w r =
     withSetupend
     (withSide (withSide r 0 In (zeroTxStored w (sideAt r 0 In))) 0 Out (dropped (w .«serviced_rx_pkt_rdy») (sideAt r 0 Out)))
-    (r .setupend && not (w .«serviced_setup_end»))
+    (setupend r && not (w .«serviced_setup_end»))
 
 -- "CSR0H's flush does both sides"
-unfoldable pub csr0hFlushed : Regs → Regs
+unfoldable pub csr0hFlushed : File → File
 csr0hFlushed r = withSide (withSide r 0 In (dropped true (sideAt r 0 In))) 0 Out (dropped true (sideAt r 0 Out))

@@ -1,155 +1,119 @@
--- The register record: fresh, one side of an endpoint, and the record with one of its parts changed.
+-- The register file: numbers by named places, one side of an endpoint, and the file with one of its parts changed.
 -- Assumes nothing.
-use Prim.Native.Nat.{ℕ}
+use Prim.Native.Nat.{ℕ, _+_}
 use mathlib.Core.Path.{_≡_}
-use mathlib.Core.Bool.{Bool, false}
+use mathlib.Core.Bool.{Bool, cond}
 use mathlib.Core.List.{List}
+use lib.Dec.{eqb, ltb}
 use lib.ListN.{length, getD, set, replicate}
+use Rattle.laws.specs.Words.{bit, raised}
 use Rattle.board.specs.declared.Board.{Board}
 use Rattle.board.specs.declared.Direction.{Direction}
 use Rattle.board.specs.declared.Direction.the-variants.{Out, In}
+use Rattle.board.specs.Table.{place}
 use Rattle.csr.specs.declared.Side.{Side}
-use Rattle.regs.specs.declared.Ep.{Ep}
-use Rattle.regs.specs.declared.Pending.{Pending}
-use Rattle.regs.specs.declared.Enable.{Enable}
-use Rattle.regs.specs.declared.Regs.{Regs}
 use Rattle.csr.specs.Registers.{noSide}
+use Rattle.regs.specs.declared.Regs.{Regs}
 
-abbrev pub noEp : Ep
-noEp = record { tx = noSide; rx = noSide }
+-- the numbers of the file, in their order:
+--   0 index, 1 faddr, 2 power, 3 intrusbe, 4 intrtxe, 5 intrrxe, 6 intrusb, 7 intrtx, 8 intrrx, 9 SetupEnd;
+--   then twelve of each, an endpoint's transmit side before its receive side: 10 the control bits, 22 the waiting packet's length, 34 maxp
+abbrev pub File : Type 0
+File = List ℕ
 
-abbrev pub noPending : Pending
-noPending = record { usb = record { suspend = false; resume = false; reset = false }; tx = 0; rx = 0 }
+-- every file of the code has 46 numbers; of a list a law has to say it
+abbrev pub Whole : File → Type 0
+Whole w = length w ≡ 46
+
+-- "A fresh record: registers 0, nothing waiting"
+unfoldable pub freshFile : File
+freshFile = replicate 46 0
 
 unfoldable pub freshRegs : Board → Regs
-freshRegs b = record {
-  board = b;
-  index = 0;
-  faddr = 0;
-  power = 0;
-  enable = record { usb = 0; tx = 0; rx = 0 };
-  pending = noPending;
-  setupend = false;
-  eps = replicate 6 noEp;
-}
+unfolding freshFile
+freshRegs b = record { board = b; words = freshFile }
 
--- an endpoint's side; in Rust's words In is TX and Out is RX
-abbrev pub sideOf : Ep → Direction → Side
-sideOf e Out = e .rx
-sideOf e In = e .tx
+-- the registers that are there once
+unfoldable pub index : File → ℕ
+index w = getD w 0 0
 
-abbrev pub putSide : Ep → Direction → Side → Ep
-putSide e Out s = record { tx = e .tx; rx = s }
-putSide e In s = record { tx = s; rx = e .rx }
+unfoldable pub withIndex : File → ℕ → File
+withIndex w e = set w 0 e
 
--- an enable register of a direction
-abbrev pub enabledOf : Direction → Enable → ℕ
-enabledOf Out e = e .rx
-enabledOf In e = e .tx
+unfoldable pub faddr : File → ℕ
+faddr w = getD w 1 0
 
-abbrev pub enabled : Direction → ℕ → Enable → Enable
-enabled Out v e = record { usb = e .usb; tx = e .tx; rx = v }
-enabled In v e = record { usb = e .usb; tx = v; rx = e .rx }
+unfoldable pub withFaddr : File → ℕ → File
+withFaddr w a = set w 1 a
 
--- the record with one part changed
-abbrev pub withIndex : Regs → ℕ → Regs
-withIndex r i = record {
-  board = r .board;
-  index = i;
-  faddr = r .faddr;
-  power = r .power;
-  enable = r .enable;
-  pending = r .pending;
-  setupend = r .setupend;
-  eps = r .eps;
-}
+unfoldable pub power : File → ℕ
+power w = getD w 2 0
 
-abbrev pub withFaddr : Regs → ℕ → Regs
-withFaddr r a = record {
-  board = r .board;
-  index = r .index;
-  faddr = a;
-  power = r .power;
-  enable = r .enable;
-  pending = r .pending;
-  setupend = r .setupend;
-  eps = r .eps;
-}
+unfoldable pub withPower : File → ℕ → File
+withPower w v = set w 2 v
 
-abbrev pub withPower : Regs → ℕ → Regs
-withPower r p = record {
-  board = r .board;
-  index = r .index;
-  faddr = r .faddr;
-  power = p;
-  enable = r .enable;
-  pending = r .pending;
-  setupend = r .setupend;
-  eps = r .eps;
-}
+unfoldable pub intrusbe : File → ℕ
+intrusbe w = getD w 3 0
 
-abbrev pub withEnable : Regs → Enable → Regs
-withEnable r e = record {
-  board = r .board;
-  index = r .index;
-  faddr = r .faddr;
-  power = r .power;
-  enable = e;
-  pending = r .pending;
-  setupend = r .setupend;
-  eps = r .eps;
-}
+unfoldable pub withIntrusbe : File → ℕ → File
+withIntrusbe w v = set w 3 v
 
-abbrev pub withPending : Regs → Pending → Regs
-withPending r p = record {
-  board = r .board;
-  index = r .index;
-  faddr = r .faddr;
-  power = r .power;
-  enable = r .enable;
-  pending = p;
-  setupend = r .setupend;
-  eps = r .eps;
-}
+-- intrtxe of In, intrrxe of Out
+unfoldable pub enabledOf : Direction → File → ℕ
+enabledOf Out w = getD w 5 0
+enabledOf In w = getD w 4 0
 
-abbrev pub withSetupend : Regs → Bool → Regs
-withSetupend r b = record {
-  board = r .board;
-  index = r .index;
-  faddr = r .faddr;
-  power = r .power;
-  enable = r .enable;
-  pending = r .pending;
-  setupend = b;
-  eps = r .eps;
-}
+unfoldable pub withEnabled : Direction → ℕ → File → File
+withEnabled Out v w = set w 5 v
+withEnabled In v w = set w 4 v
 
-abbrev pub withEps : Regs → List Ep → Regs
-withEps r es = record {
-  board = r .board;
-  index = r .index;
-  faddr = r .faddr;
-  power = r .power;
-  enable = r .enable;
-  pending = r .pending;
-  setupend = r .setupend;
-  eps = es;
-}
+-- the interrupt registers: what is raised and not read yet. Of the bus register suspend is bit 0, resume bit 1, reset bit 2.
+unfoldable pub intrusb : File → ℕ
+intrusb w = getD w 6 0
+
+unfoldable pub withIntrusb : File → ℕ → File
+withIntrusb w v = set w 6 v
+
+-- intrtx of In, intrrx of Out
+unfoldable pub intrOf : File → Direction → ℕ
+intrOf w Out = getD w 8 0
+intrOf w In = getD w 7 0
+
+unfoldable pub withIntr : File → Direction → ℕ → File
+withIntr w Out v = set w 8 v
+withIntr w In v = set w 7 v
+
+-- SetupEnd of CSR0L
+unfoldable pub setupend : File → Bool
+setupend w = eqb (getD w 9 0) 1
+
+unfoldable pub withSetupend : File → Bool → File
+withSetupend w b = set w 9 (cond b 1 0)
+
+-- a side's control bits as one number, and back
+unfoldable pub sideWord : Side → ℕ
+sideWord s = cond (s .ready) 1 0 + cond (s .missed) 2 0 + cond (s .stall) 4 0 + cond (s .stalled) 8 0 + cond (s .iso) 16 0
+
+unfoldable pub sideOf : ℕ → ℕ → ℕ → Side
+sideOf c m n = record { ready = bit c 0; missed = bit c 1; stall = bit c 2; stalled = bit c 3; iso = bit c 4; maxp = m; len = n }
+
+-- the side in a place
+unfoldable pub sideIn : File → ℕ → Side
+sideIn w i = sideOf (getD w (10 + i) 0) (getD w (34 + i) 0) (getD w (22 + i) 0)
+
+unfoldable pub withSideIn : File → ℕ → Side → File
+withSideIn w i s = set (set (set w (10 + i) (sideWord s)) (34 + i) (s .maxp)) (22 + i) (s .len)
 
 -- the side of an endpoint by its number; past the last endpoint nothing is there, and nothing is changed
-unfoldable pub sideAt : Regs → ℕ → Direction → Side
-sideAt r e d = sideOf (getD (r .eps) e noEp) d
+unfoldable pub sideAt : File → ℕ → Direction → Side
+sideAt w e d = cond (ltb e 6) (sideIn w (place e d)) noSide
 
-unfoldable pub withSide : Regs → ℕ → Direction → Side → Regs
-withSide r e d s = withEps r (set (r .eps) e (putSide (getD (r .eps) e noEp) d s))
-
--- every record of the code has six endpoints; of a list of endpoints a law has to say it
-abbrev pub Whole : Regs → Type 0
-Whole r = length (r .eps) ≡ 6
+unfoldable pub withSide : File → ℕ → Direction → Side → File
+withSide w e d s = cond (ltb e 6) (withSideIn w (place e d) s) w
 
 -- the side that the selection names, which the registers TXCSRL, RXCSRL, TXMAXP, .. are about
-abbrev pub chosen : Regs → Direction → Side
-chosen r d = sideAt r (r .index) d
+abbrev pub chosen : File → Direction → Side
+chosen w d = sideAt w (index w) d
 
-abbrev pub withChosen : Regs → Direction → Side → Regs
-withChosen r d s = withSide r (r .index) d s
+abbrev pub withChosen : File → Direction → Side → File
+withChosen w d s = withSide w (index w) d s

@@ -1,32 +1,37 @@
 -- The register part of reply 16's test.
 -- Assumes nothing.
-use Prim.Native.Nat.{ℕ, _<_, _≤_}
+use Prim.Native.Nat.{ℕ, zero, suc, _+_, _<_, _≤_}
 use mathlib.Core.Bool.{Bool, true}
-use mathlib.Core.List.{List, [], _∷_}
+use mathlib.Core.List.{List}
 use lib.Dec.{leb, ltb}
-use lib.ListN.{length, getD, drop}
+use lib.ListN.{getD}
 use Rattle.laws.specs.Tests.{_also_}
-use Rattle.board.specs.Boards.{rows}
 use Rattle.board.specs.Table.{place}
 use Rattle.board.specs.declared.Direction.{Direction}
-use Rattle.regs.specs.declared.Ep.{Ep}
-use Rattle.regs.specs.declared.Regs.{Regs}
-use Rattle.regs.specs.Registers.{sideAt}
+use Rattle.regs.specs.Registers.{File, index, faddr, sideIn, sideAt}
 use Rattle.csr.specs.Sound.{sideSound, SideOk}
 
-unfoldable pub epSound : ℕ → ℕ → Ep → Bool
-epSound tx rx e = sideSound tx (e .tx) also sideSound rx (e .rx)
+-- the side in a place; and of its control bits no others than the five, since all else of a control register reads 0
+unfoldable pub placeSound : ℕ → File → ℕ → Bool
+placeSound size w i = sideSound size (sideIn w i) also ltb (getD w (10 + i) 0) 32
 
--- at every endpoint; the sizes stand in the order of the areas: an endpoint's transmit area, then its receive area
-unfoldable pub sidesSound : List ℕ → List Ep → Bool
-sidesSound sizes [] = true
-sidesSound sizes (e ∷ es) = epSound (getD sizes 0 0) (getD sizes 1 0) e also sidesSound (drop 2 sizes) es
+-- every side below a place; the sizes stand in the order of the areas: an endpoint's transmit area, then its receive area
+unfoldable pub soundBelow : List ℕ → File → ℕ → Bool
+soundBelow sizes w zero = true
+soundBelow sizes w (suc i) = soundBelow sizes w i also placeSound (getD sizes i 0) w i
 
--- and "selection over 5, address over 127": the board's own last endpoint is the bound of a selection
-unfoldable pub regsSound : List ℕ → Regs → Bool
-regsSound sizes r = ltb (r .index) (length (rows (r .board))) also leb (r .faddr) 127 also sidesSound sizes (r .eps)
+-- and "selection over 5, address over 127": the board's own last endpoint is the bound of a selection. SetupEnd is one bit.
+unfoldable pub regsSound : List ℕ → ℕ → File → Bool
+regsSound sizes count w = ltb (index w) count also leb (faddr w) 127 also leb (getD w 9 0) 1 also soundBelow sizes w 12
 
-pub record Sound (sizes : List ℕ) (r : Regs) : Type 0 where
-  pub selected : r .index < length (rows (r .board))
-  pub address : r .faddr ≤ 127
-  pub side : (e : ℕ) (d : Direction) → SideOk (getD sizes (place e d) 0) (sideAt r e d)
+-- no number stands in the file that no register can hold: SetupEnd is one bit, and of a control register five bits are kept
+pub record Clean (w : File) : Type 0 where
+  pub ended : getD w 9 0 ≤ 1
+  pub bits : (i : ℕ) → i < 12 → getD w (10 + i) 0 < 32
+
+-- what the test says, for a file of a board with so many endpoints: proofs/Soundness.antt shows that a file passes exactly when it is sound
+pub record Sound (sizes : List ℕ) (count : ℕ) (w : File) : Type 0 where
+  pub selected : index w < count
+  pub address : faddr w ≤ 127
+  pub clean : Clean w
+  pub side : (e : ℕ) (d : Direction) → SideOk (getD sizes (place e d) 0) (sideAt w e d)

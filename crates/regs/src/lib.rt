@@ -1,5 +1,6 @@
-// Document 01's register model: the registers as a record that is passed and returned.
+// Document 01's register model: a register file, as the chip has one. The registers are numbers in one array.
 //
+// A public call has the array by value, in its record; below it every function is lent the array, and changes it in place.
 // The driver above knows this crate by its contracts and its exported laws alone.
 use board::Board;
 use board::Direction;
@@ -8,255 +9,200 @@ use csr::Rxcsrl;
 use csr::Side;
 use csr::Txcsrl;
 ghost use mathlib.Core.Path.{_≡_};
-ghost use mathlib.Core.Bool.{_||_};
-ghost use Rattle.regs.specs.Registers.{freshRegs, sideOf, putSide, sideAt, withSide};
 ghost use Prim.Native.Nat.{_<_};
+ghost use Rattle.regs.specs.Registers.{freshRegs, sideWord, sideIn, withSideIn, sideAt, withSide};
 ghost use Rattle.regs.specs.Control.{csr0lRead, txcsrlRead, rxcsrlRead, count0, rxcount, csr0lStored, csr0hFlushed};
-ghost use Rattle.regs.specs.Sound.{epSound, sidesSound, regsSound};
+ghost use Rattle.regs.specs.Sound.{placeSound, soundBelow, regsSound};
 
-pub struct Ep {
-    pub tx: Side,
-    pub rx: Side,
-}
+// Places in the array: the registers that are there once; of the interrupt registers what is raised and not read yet (of the bus suspend is
+// bit 0, resume bit 1, reset bit 2); SetupEnd of CSR0L.
+pub const INDEX: usize = 0;
 
-// The bus interrupt register: suspend is bit 0, resume bit 1, reset bit 2.
-pub struct Intrusb {
-    pub suspend: bool,
-    pub resume: bool,
-    pub reset: bool,
-}
+pub const FADDR: usize = 1;
 
-// The interrupt registers: what is raised and not read yet.
-pub struct Pending {
-    pub usb: Intrusb,
-    pub tx: u16,
-    pub rx: u16,
-}
+pub const POWER: usize = 2;
 
-// The interrupt enable registers. They hold back no interrupt.
-pub struct Enable {
-    pub usb: u8,
-    pub tx: u16,
-    pub rx: u16,
-}
+pub const INTRUSBE: usize = 3;
+
+pub const INTRTXE: usize = 4;
+
+pub const INTRRXE: usize = 5;
+
+pub const INTRUSB: usize = 6;
+
+pub const INTRTX: usize = 7;
+
+pub const INTRRX: usize = 8;
+
+pub const SETUPEND: usize = 9;
+
+// Then twelve of each, an endpoint's transmit side before its receive side: the control bits, the waiting packet's length, maxp.
+const CSR: usize = 10;
+
+const LEN: usize = 22;
+
+const MAXP: usize = 34;
 
 pub struct Regs {
     pub board: Board,
-    pub index: u8,
-    pub faddr: u8,
-    pub power: u8,
-    pub enable: Enable,
-    pub pending: Pending,
-    // SetupEnd of CSR0L
-    pub setupend: bool,
-    pub eps: [Ep; 6],
+    pub words: [u16; 46],
 }
 
 // Registers 0, nothing waiting.
 pub fn fresh(b: Board) -> Regs
     ensures { λ r. ⌜ r ≡ freshRegs b ⌝ }
 {
-    let s = csr::no_side();
-    let e = Ep { tx: s, rx: s };
     Regs {
         board: b,
-        index: 0,
-        faddr: 0,
-        power: 0,
-        enable: Enable {
-            usb: 0,
-            tx: 0,
-            rx: 0,
-        },
-        pending: Pending {
-            usb: Intrusb {
-                suspend: false,
-                resume: false,
-                reset: false,
-            },
-            tx: 0,
-            rx: 0,
-        },
-        setupend: false,
-        eps: [e; 6],
+        words: [0u16; 46],
     }
 }
 
-fn side_of(e: Ep, d: Direction) -> Side
-    ensures { λ s. ⌜ s ≡ sideOf e d ⌝ }
+// A side's control bits as one number.
+fn side_word(s: Side) -> u16
+    ensures { λ r. ⌜ r ≡ sideWord s ⌝ }
 {
-    match d {
-        Direction::Out => e.rx,
-        Direction::In => e.tx,
+    csr::weight(s.ready, 1)
+        + csr::weight(s.missed, 2)
+        + csr::weight(s.stall, 4)
+        + csr::weight(s.stalled, 8)
+        + csr::weight(s.iso, 16)
+}
+
+// The side in a place, and another state of it.
+fn side_in(w: &[u16; 46], i: usize) -> Side
+    requires { ⌜ i < 12 ⌝ }
+    ensures { λ s. ⌜ s ≡ sideIn (now (w .entry)) i ⌝ }
+{
+    let c = w[CSR + i];
+    Side {
+        ready: laws::has_bit(c, 0),
+        missed: laws::has_bit(c, 1),
+        stall: laws::has_bit(c, 2),
+        stalled: laws::has_bit(c, 3),
+        iso: laws::has_bit(c, 4),
+        maxp: w[MAXP + i],
+        len: w[LEN + i],
     }
 }
 
-fn put_side(e: Ep, d: Direction, s: Side) -> Ep
-    ensures { λ f. ⌜ f ≡ putSide e d s ⌝ }
+fn put_side_in(w: &mut [u16; 46], i: usize, s: Side)
+    requires { ⌜ i < 12 ⌝ }
+    ensures { λ _. ⌜ now (w .exit) ≡ withSideIn (now (w .entry)) i s ⌝ }
 {
-    match d {
-        Direction::Out => {
-            let tx = e.tx;
-            Ep { tx: tx, rx: s }
-        }
-        Direction::In => {
-            let rx = e.rx;
-            Ep { tx: s, rx: rx }
-        }
-    }
-}
-
-// What the control registers of one endpoint read, for loops over the endpoints: an endpoint is looked at in its place, and the registers
-// are not copied. UnderRun or OverRun; and RxPktRdy, endpoint 0's too.
-pub fn has_missed(e: Ep) -> bool
-    ensures { λ b. ⌜ b ≡ (e .tx .missed || e .rx .missed) ⌝ }
-{
-    let tx = e.tx;
-    let rx = e.rx;
-    tx.missed | rx.missed
-}
-
-pub fn has_received(e: Ep) -> bool
-    ensures { λ b. ⌜ b ≡ e .rx .ready ⌝ }
-{
-    let rx = e.rx;
-    rx.ready
+    w[CSR + i] = side_word(s);
+    w[MAXP + i] = s.maxp;
+    w[LEN + i] = s.len;
 }
 
 // The side of an endpoint by its number. Past the last endpoint nothing is there.
-pub fn side_at(r: Regs, e: u8, d: Direction) -> Side
-    ensures { λ s. ⌜ s ≡ sideAt r e d ⌝ }
+pub fn side_at(w: &[u16; 46], e: u16, d: Direction) -> Side
+    ensures { λ s. ⌜ s ≡ sideAt (now (w .entry)) e d ⌝ }
 {
-    let i = e as usize;
-    if i < 6 {
-        return side_of(r.eps[i], d);
+    if e < 6 {
+        return side_in(w, board::place_of(e as u8, d));
     }
     csr::no_side()
 }
 
-// The registers with another state of a side. Past the last endpoint nothing changes.
-pub fn with_side(r: Regs, e: u8, d: Direction, s: Side) -> Regs
-    ensures { λ o. ⌜ o ≡ withSide r e d s ⌝ }
+// Another state of a side. Past the last endpoint nothing changes.
+pub fn put_side(w: &mut [u16; 46], e: u16, d: Direction, s: Side)
+    ensures { λ _. ⌜ now (w .exit) ≡ withSide (now (w .entry)) e d s ⌝ }
 {
-    let i = e as usize;
-    if i < 6 {
-        let f = put_side(r.eps[i], d, s);
-        let mut o = r;
-        o.eps[i] = f;
-        return o;
+    if e < 6 {
+        put_side_in(w, board::place_of(e as u8, d), s);
+        return;
     }
-    r
 }
 
-pub fn read_csr0l(r: Regs) -> Csr0l
-    ensures { λ w. ⌜ w ≡ csr0lRead r ⌝ }
+pub fn read_csr0l(w: &[u16; 46]) -> Csr0l
+    ensures { λ v. ⌜ v ≡ csr0lRead (now (w .entry)) ⌝ }
 {
-    let tx = side_at(r, 0, Direction::In);
-    let rx = side_at(r, 0, Direction::Out);
+    let tx = side_at(w, 0, Direction::In);
+    let rx = side_at(w, 0, Direction::Out);
     Csr0l {
         rx_pkt_rdy: rx.ready,
         tx_pkt_rdy: tx.ready,
         sent_stall: tx.stalled,
         data_end: false,
-        setup_end: r.setupend,
+        setup_end: w[SETUPEND] == 1,
         send_stall: tx.stall,
         serviced_rx_pkt_rdy: false,
         serviced_setup_end: false,
     }
 }
 
-pub fn read_txcsrl(r: Regs) -> Txcsrl
-    ensures { λ w. ⌜ w ≡ txcsrlRead r ⌝ }
+pub fn read_txcsrl(w: &[u16; 46]) -> Txcsrl
+    ensures { λ v. ⌜ v ≡ txcsrlRead (now (w .entry)) ⌝ }
 {
-    let s = side_at(r, r.index, Direction::In);
-    Txcsrl {
-        tx_pkt_rdy: s.ready,
-        fifo_not_empty: s.ready,
-        under_run: s.missed,
-        flush_fifo: false,
-        send_stall: s.stall,
-        sent_stall: s.stalled,
-        clr_data_tog: false,
-    }
+    csr::txcsrl_of(side_at(w, w[INDEX], Direction::In))
 }
 
-pub fn read_rxcsrl(r: Regs) -> Rxcsrl
-    ensures { λ w. ⌜ w ≡ rxcsrlRead r ⌝ }
+pub fn read_rxcsrl(w: &[u16; 46]) -> Rxcsrl
+    ensures { λ v. ⌜ v ≡ rxcsrlRead (now (w .entry)) ⌝ }
 {
-    let s = side_at(r, r.index, Direction::Out);
-    Rxcsrl {
-        rx_pkt_rdy: s.ready,
-        fifo_full: false,
-        over_run: s.missed,
-        data_error: false,
-        flush_fifo: false,
-        send_stall: s.stall,
-        sent_stall: s.stalled,
-        clr_data_tog: false,
-    }
+    csr::rxcsrl_of(side_at(w, w[INDEX], Direction::Out))
 }
 
-pub fn read_count0(r: Regs) -> u16
-    ensures { λ n. ⌜ n ≡ count0 r ⌝ }
+pub fn read_count0(w: &[u16; 46]) -> u16
+    ensures { λ n. ⌜ n ≡ count0 (now (w .entry)) ⌝ }
 {
-    let s = side_at(r, 0, Direction::Out);
+    let s = side_at(w, 0, Direction::Out);
     s.len
 }
 
-pub fn read_rxcount(r: Regs) -> u16
-    ensures { λ n. ⌜ n ≡ rxcount r ⌝ }
+pub fn read_rxcount(w: &[u16; 46]) -> u16
+    ensures { λ n. ⌜ n ≡ rxcount (now (w .entry)) ⌝ }
 {
-    let s = side_at(r, r.index, Direction::Out);
+    let s = side_at(w, w[INDEX], Direction::Out);
     s.len
 }
 
-pub fn csr0l_stored(w: Csr0l, r: Regs) -> Regs
-    ensures { λ o. ⌜ o ≡ csr0lStored w r ⌝ }
+// What a store to CSR0L changes.
+pub fn store_csr0l(w: &mut [u16; 46], v: Csr0l)
+    ensures { λ _. ⌜ now (w .exit) ≡ csr0lStored v (now (w .entry)) ⌝ }
 {
-    let tx = csr::zero_tx_stored(w, side_at(r, 0, Direction::In));
-    let rx = csr::drop_packet(w.serviced_rx_pkt_rdy, side_at(r, 0, Direction::Out));
-    let ended = r.setupend & !w.serviced_setup_end;
-    let half = with_side(r, 0, Direction::In, tx);
-    let mut o = with_side(half, 0, Direction::Out, rx);
-    o.setupend = ended;
-    o
+    let tx = csr::zero_tx_stored(v, side_at(w, 0, Direction::In));
+    let rx = csr::drop_packet(v.serviced_rx_pkt_rdy, side_at(w, 0, Direction::Out));
+    let ended = (w[SETUPEND] == 1) & !v.serviced_setup_end;
+    put_side(w, 0, Direction::In, tx);
+    put_side(w, 0, Direction::Out, rx);
+    w[SETUPEND] = csr::weight(ended, 1);
 }
 
-pub fn csr0h_flushed(r: Regs) -> Regs
-    ensures { λ o. ⌜ o ≡ csr0hFlushed r ⌝ }
+// And the flush of CSR0H.
+pub fn flush_csr0h(w: &mut [u16; 46])
+    ensures { λ _. ⌜ now (w .exit) ≡ csr0hFlushed (now (w .entry)) ⌝ }
 {
-    let tx = csr::drop_packet(true, side_at(r, 0, Direction::In));
-    let rx = csr::drop_packet(true, side_at(r, 0, Direction::Out));
-    let half = with_side(r, 0, Direction::In, tx);
-    with_side(half, 0, Direction::Out, rx)
+    let tx = csr::drop_packet(true, side_at(w, 0, Direction::In));
+    let rx = csr::drop_packet(true, side_at(w, 0, Direction::Out));
+    put_side(w, 0, Direction::In, tx);
+    put_side(w, 0, Direction::Out, rx);
 }
 
-fn ep_sound(tx: u16, rx: u16, e: Ep) -> bool
-    ensures { λ b. ⌜ b ≡ epSound tx rx e ⌝ }
+fn place_sound(w: &[u16; 46], size: u16, i: usize) -> bool
+    requires { ⌜ i < 12 ⌝ }
+    ensures { λ b. ⌜ b ≡ placeSound size (now (w .entry)) i ⌝ }
 {
-    csr::side_sound(tx, e.tx) & csr::side_sound(rx, e.rx)
+    csr::side_sound(size, side_in(w, i)) & (w[CSR + i] < 32)
 }
 
-fn sides_sound(sizes: [u16; 12], eps: [Ep; 6]) -> bool
-    ensures { λ b. ⌜ b ≡ sidesSound sizes eps ⌝ }
+// No early end: so the tests are made several at a time.
+fn sides_sound(w: &[u16; 46], sizes: &[u16; 12]) -> bool
+    ensures { λ b. ⌜ b ≡ soundBelow (now (sizes .entry)) (now (w .entry)) 12 ⌝ }
 {
+    let mut ok = true;
     let mut i = 0usize;
-    while i < 6 {
-        let tx = sizes[2 * i];
-        let rx = sizes[2 * i + 1];
-        if !ep_sound(tx, rx, eps[i]) {
-            return false;
-        }
+    while i < 12 {
+        ok = ok & place_sound(w, sizes[i], i);
         i += 1;
     }
-    true
+    ok
 }
 
-// The sizes stand in the order of the areas.
-pub fn sound(r: Regs, sizes: [u16; 12]) -> bool
-    ensures { λ b. ⌜ b ≡ regsSound sizes r ⌝ }
+// The sizes stand in the order of the areas; count is how many endpoints there are.
+pub fn sound(w: &[u16; 46], sizes: &[u16; 12], count: u8) -> bool
+    ensures { λ b. ⌜ b ≡ regsSound (now (sizes .entry)) count (now (w .entry)) ⌝ }
 {
-    let b = r.board;
-    let eps = r.eps;
-    (r.index < board::endpoints(b)) & (r.faddr <= 127) & sides_sound(sizes, eps)
+    (w[INDEX] < count as u16) & (w[FADDR] <= 127) & (w[SETUPEND] <= 1) & sides_sound(w, sizes)
 }

@@ -10,9 +10,9 @@ use Rattle.board.specs.declared.Board.the-variants.{Display}
 use Rattle.board.specs.Table.{total}
 use Rattle.board.specs.Boards.{rows, rows-display}
 use Rattle.board.proofs.Areas.{display-total}
-use Rattle.regs.proofs.Sides.{fresh-rest}
+use Rattle.regs.proofs.Sides.{fresh-words}
 use Rattle.record.specs.declared.Record.{Record}
-use Rattle.record.specs.Record.{freshRecord, needOf}
+use Rattle.record.specs.Record.{freshRecord, needIn, needOf}
 use Rattle.report.specs.Text.{endLine, badLine}
 use Rattle.act.specs.Act.{State, state}
 use Rattle.trace.specs.declared.Came.{Came}
@@ -24,8 +24,8 @@ use Rattle.trace.proofs.Whole as whole
 
 -- the display's FIFO memory: a fresh display begins as `begun` says
 need : needOf (freshRecord Display) ≡ 1664
-unfolding needOf freshRecord
-need = ap (λ (b : Board). total (rows b)) (fresh-rest Display .0) ∙ ap total rows-display ∙ display-total
+unfolding needIn needOf freshRecord
+need = ap (λ (b : Board). total (rows b)) (fresh-words Display .1) ∙ ap total rows-display ∙ display-total
 
 pub fresh-begins : beginning (freshRecord Display) (replicate 1664 0) ≡ begun (freshRecord Display)
 fresh-begins = ap (λ (n : ℕ). beginning (freshRecord Display) (replicate n 0)) (sym need)

@@ -47,9 +47,9 @@ fn writes(k: Record, ep: u8, twice: bool, n: usize, fifo: &mut [u8], list: &mut 
 
 fn reads(k: Record, ep: u8, twice: bool, fifo: &[u8], list: &mut [u16]) {
     let mut packet = [0u8; 512];
-    let a = usb_device_read::read(k, ep, fifo, list, &mut packet);
+    let a = usb_device_read::read(k, ep, &mut packet, fifo, list);
     if twice {
-        let b = usb_device_read::read(k, ep, fifo, list, &mut packet);
+        let b = usb_device_read::read(k, ep, &mut packet, fifo, list);
         print(b.record, list, b.stores);
         return;
     }

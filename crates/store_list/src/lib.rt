@@ -37,13 +37,13 @@ pub const INTRUSBE: u16 = 14;
 pub const FIFO: u16 = 15;
 
 // Three numbers a store. The room is asked of the caller and not tested here.
-pub fn put(list: &mut [u16], n: usize, register: u16, endpoint: u8, value: u16) -> usize
+pub fn put(list: &mut [u16], n: usize, register: u16, endpoint: u16, value: u16) -> usize
     requires { ⌜ n * 3 + 3 ≤ length (now list) ⌝ }
     ensures { λ r. ⌜ (r ≡ n + 1) × (now (list .exit) ≡ listed (now (list .entry)) n register endpoint value) ⌝ }
 {
     let at = n * 3;
     list[at] = register;
-    list[at + 1] = endpoint as u16;
+    list[at + 1] = endpoint;
     list[at + 2] = value;
     n + 1
 }

@@ -9,10 +9,10 @@ use lib.Dec.{eqb}
 use Rattle.board.specs.declared.Direction.{Direction}
 use Rattle.board.specs.declared.Direction.the-variants.{Out, In}
 use Rattle.csr.specs.declared.Side.{Side}
-use Rattle.regs.specs.declared.Regs.{Regs}
 use Rattle.csr.specs.declared.TxcsrlSet.{TxcsrlSet}
 use Rattle.csr.specs.declared.RxcsrlSet.{RxcsrlSet}
-use Rattle.regs.specs.Registers.{Whole, sideAt, chosen}
+use Rattle.regs.specs.Registers as file
+use Rattle.regs.specs.Registers.{File, Whole, sideAt, chosen}
 use Rattle.csr.specs.Registers.{towards, withIso, withMaxp, withLen}
 use Rattle.csr.specs.Control.{txStored, rxStored, txcsrlSet, rxcsrlSet}
 use Rattle.regs.specs.Control.{txcsrlRead, rxcsrlRead}
@@ -23,7 +23,7 @@ use Rattle.stores.specs.Promise.{Store, faddr, power, index, csr0l, csr0
 use Rattle.stores.proofs.Promises.{sides}
 
 -- the written SendStall bit is the one that stands there
-abbrev pub SameStall : Store → Regs → Type 0
+abbrev pub SameStall : Store → File → Type 0
 SameStall (txcsrl w) r = w .«send_stall» ≡ chosen r In .stall
 SameStall (rxcsrl w) r = w .«send_stall» ≡ chosen r Out .stall
 SameStall (faddr a) r = Unit
@@ -38,20 +38,20 @@ SameStall (intre d v) r = Unit
 SameStall (packet n) r = Unit
 
 -- a change of the selected side that keeps SendStall keeps it at every side
-kept : (c : Direction) (f : Side → Side) (r : Regs) (e : ℕ) (d : Direction) → (f (chosen r c) .stall ≡ chosen r c .stall)
-    → cond (eqb e (r .index)) (towards c d f (sideAt r e d)) (sideAt r e d) .stall ≡ sideAt r e d .stall
-kept c f r e d same = go c d same (ℕ-discrete e (r .index))
+kept : (c : Direction) (f : Side → Side) (r : File) (e : ℕ) (d : Direction) → (f (chosen r c) .stall ≡ chosen r c .stall)
+    → cond (eqb e (file.index r)) (towards c d f (sideAt r e d)) (sideAt r e d) .stall ≡ sideAt r e d .stall
+kept c f r e d same = go c d same (ℕ-discrete e (file.index r))
   where
-    go : (c d : Direction) → (f (chosen r c) .stall ≡ chosen r c .stall) → Dec (e ≡ r .index)
-        → cond (eqb e (r .index)) (towards c d f (sideAt r e d)) (sideAt r e d) .stall ≡ sideAt r e d .stall
-    go c d s (no n) = rw (ne-eqb e (r .index) n)
-    go Out Out s (yes p) = rw (eq-eqb e (r .index) p) (rw p s)
-    go Out In s (yes p) = rw (eq-eqb e (r .index) p)
-    go In Out s (yes p) = rw (eq-eqb e (r .index) p)
-    go In In s (yes p) = rw (eq-eqb e (r .index) p) (rw p s)
+    go : (c d : Direction) → (f (chosen r c) .stall ≡ chosen r c .stall) → Dec (e ≡ file.index r)
+        → cond (eqb e (file.index r)) (towards c d f (sideAt r e d)) (sideAt r e d) .stall ≡ sideAt r e d .stall
+    go c d s (no n) = rw (ne-eqb e (file.index r) n)
+    go Out Out s (yes p) = rw (eq-eqb e (file.index r) p) (rw p s)
+    go Out In s (yes p) = rw (eq-eqb e (file.index r) p)
+    go In Out s (yes p) = rw (eq-eqb e (file.index r) p)
+    go In In s (yes p) = rw (eq-eqb e (file.index r) p) (rw p s)
 
-leaves-stall : (o : Store) (r : Regs) (e : ℕ) (d : Direction) → (e ≡ 0 → ⊥) → SameStall o r
-    → leaves o (r .index) e d (sideAt r e d) .stall ≡ sideAt r e d .stall
+leaves-stall : (o : Store) (r : File) (e : ℕ) (d : Direction) → (e ≡ 0 → ⊥) → SameStall o r
+    → leaves o (file.index r) e d (sideAt r e d) .stall ≡ sideAt r e d .stall
 leaves-stall (faddr a) r e d n s = refl
 leaves-stall power r e d n s = refl
 leaves-stall (index f) r e d n s = refl
@@ -67,17 +67,17 @@ leaves-stall (intre c v) r e d n s = refl
 leaves-stall (packet m) r e d n s = go (eqb m 0)
   where
     go : (b : Bool)
-        → cond b (sideAt r e d) (cond (eqb e (r .index)) (towards In d (withLen m) (sideAt r e d)) (sideAt r e d)) .stall ≡ sideAt r e d .stall
+        → cond b (sideAt r e d) (cond (eqb e (file.index r)) (towards In d (withLen m) (sideAt r e d)) (sideAt r e d)) .stall ≡ sideAt r e d .stall
     go true = refl
     go false = kept In (withLen m) r e d refl
 
 -- a store that does not write another SendStall keeps every halt of 1 to 5
-pub halts : (o : Store) (g : Log) → Whole (g .regs) → g .regs .index < 6 → SameStall o (g .regs) → SameHalts (g .regs) (does o g .regs)
+pub halts : (o : Store) (g : Log) → Whole (g .regs) → file.index (g .regs) < 6 → SameStall o (g .regs) → SameHalts (g .regs) (does o g .regs)
 halts o g six h s e d n = ap (λ (x : Side). x .stall) (sides o g e d six h) ∙ leaves-stall o (g .regs) e d n s
 
 -- and no `modify` writes another: it writes what it read
-pub tx-modified : (s : TxcsrlSet) (r : Regs) → SameStall (txcsrl (txcsrlSet s (txcsrlRead r))) r
+pub tx-modified : (s : TxcsrlSet) (r : File) → SameStall (txcsrl (txcsrlSet s (txcsrlRead r))) r
 tx-modified s r = txcsrl-stall s (chosen r In)
 
-pub rx-modified : (s : RxcsrlSet) (r : Regs) → SameStall (rxcsrl (rxcsrlSet s (rxcsrlRead r))) r
+pub rx-modified : (s : RxcsrlSet) (r : File) → SameStall (rxcsrl (rxcsrlSet s (rxcsrlRead r))) r
 rx-modified s r = rxcsrl-stall s (chosen r Out)

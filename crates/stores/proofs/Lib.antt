@@ -1,4 +1,3 @@
-pub mod Halts
-pub mod OnSides
-pub mod Others
 pub mod Promises
+pub mod Others
+pub mod Halts

@@ -1,19 +1,18 @@
 -- What the driver may know of a store, whichever it is: one account of what each changes and what it leaves.
 -- Assumes nothing.
-use Prim.Native.Nat.{ℕ, _+_}
+use Prim.Native.Nat.{ℕ, _+_, _<_}
 use mathlib.Core.Path.{_≡_}
 use mathlib.Core.Bool.{Bool, true, not, _&&_, cond}
-use lib.ListN.{length}
+use lib.ListN.{length, getD}
 use lib.Dec.{eqb}
 use Rattle.board.specs.declared.Direction.{Direction}
 use Rattle.board.specs.declared.Direction.the-variants.{Out, In}
 use Rattle.csr.specs.declared.Side.{Side}
-use Rattle.regs.specs.declared.Enable.{Enable}
-use Rattle.regs.specs.declared.Regs.{Regs}
 use Rattle.csr.specs.declared.Csr0l.{Csr0l}
 use Rattle.csr.specs.declared.Txcsrl.{Txcsrl}
 use Rattle.csr.specs.declared.Rxcsrl.{Rxcsrl}
-use Rattle.regs.specs.Registers.{sideAt, enabled}
+use Rattle.regs.specs.Registers as file
+use Rattle.regs.specs.Registers.{File, sideAt}
 use Rattle.csr.specs.Registers.{withIso, withMaxp, withLen, towards}
 use Rattle.csr.specs.Control.{txStored, rxStored, zeroTxStored, dropped, csr0lNumber, txcsrlNumber, rxcsrlNumber}
 use Rattle.store_list.specs.Stores as Stores
@@ -65,36 +64,31 @@ leaves intrusbe i e d s = s
 leaves (intre c v) i e d s = s
 leaves (packet n) i e d s = cond (eqb n 0) s (cond (eqb e i) (towards In d (withLen n) s) s)
 
+-- what a store leaves of a number of the file before SetupEnd's, that was x: 0 the selection, 1 the address, 2 power, 3 intrusbe, 4 intrtxe,
+-- 5 intrrxe; the pending interrupts, 6 to 8, stay
+abbrev pub writes : Store → ℕ → ℕ → ℕ
+writes (faddr a) q x = cond (eqb q 1) a x
+writes power q x = cond (eqb q 2) 1 x
+writes (index e) q x = cond (eqb q 0) e x
+writes (csr0l w) q x = x
+writes csr0h q x = x
+writes (txcsrl w) q x = x
+writes (rxcsrl w) q x = x
+writes (iso d) q x = x
+writes (maxp d n) q x = x
+writes intrusbe q x = cond (eqb q 3) 7 x
+writes (intre Out v) q x = cond (eqb q 5) v x
+writes (intre In v) q x = cond (eqb q 4) v x
+writes (packet n) q x = x
+
 -- the selection after a store, and the address
 abbrev pub selects : Store → ℕ → ℕ
-selects (index e) i = e
-selects (faddr a) i = i
-selects power i = i
-selects (csr0l w) i = i
-selects csr0h i = i
-selects (txcsrl w) i = i
-selects (rxcsrl w) i = i
-selects (iso d) i = i
-selects (maxp d n) i = i
-selects intrusbe i = i
-selects (intre d v) i = i
-selects (packet n) i = i
+selects o i = writes o 0 i
 
 abbrev pub addresses : Store → ℕ → ℕ
-addresses (index e) a = a
-addresses (faddr b) a = b
-addresses power a = a
-addresses (csr0l w) a = a
-addresses csr0h a = a
-addresses (txcsrl w) a = a
-addresses (rxcsrl w) a = a
-addresses (iso d) a = a
-addresses (maxp d n) a = a
-addresses intrusbe a = a
-addresses (intre d v) a = a
-addresses (packet n) a = a
+addresses o a = writes o 1 a
 
--- SetupEnd, power and the enable registers after a store
+-- SetupEnd after a store
 abbrev pub ends : Store → Bool → Bool
 ends (faddr a) b = b
 ends power b = b
@@ -108,34 +102,6 @@ ends (maxp d n) b = b
 ends intrusbe b = b
 ends (intre d v) b = b
 ends (packet n) b = b
-
-abbrev pub powers : Store → ℕ → ℕ
-powers (faddr a) p = p
-powers power p = 1
-powers (index e) p = p
-powers (csr0l w) p = p
-powers csr0h p = p
-powers (txcsrl w) p = p
-powers (rxcsrl w) p = p
-powers (iso d) p = p
-powers (maxp d n) p = p
-powers intrusbe p = p
-powers (intre d v) p = p
-powers (packet n) p = p
-
-abbrev pub enables : Store → Enable → Enable
-enables (faddr a) m = m
-enables power m = m
-enables (index e) m = m
-enables (csr0l w) m = m
-enables csr0h m = m
-enables (txcsrl w) m = m
-enables (rxcsrl w) m = m
-enables (iso d) m = m
-enables (maxp d n) m = m
-enables intrusbe m = record { usb = 7; tx = m .tx; rx = m .rx }
-enables (intre d v) m = enabled d v m
-enables (packet n) m = m
 
 -- what a store lists: its register and its value
 abbrev pub register : Store → ℕ
@@ -183,20 +149,19 @@ isListed (packet n) = not (eqb n 0)
 
 -- the registers that no side holds, and the list
 pub record Noted (o : Store) (g h : Log) : Type 0 where
-  pub ended : h .regs .setupend ≡ ends o (g .regs .setupend)
-  pub powered : h .regs .power ≡ powers o (g .regs .power)
-  pub enable : h .regs .enable ≡ enables o (g .regs .enable)
-  pub list : isListed o ≡ true → h .list ≡ listed (g .list) (g .count) (register o) (h .regs .index) (value o)
+  pub ended : file.setupend (h .regs) ≡ ends o (file.setupend (g .regs))
+  pub number : (q : ℕ) → q < 9 → getD (h .regs) q 0 ≡ writes o q (getD (g .regs) q 0)
+  pub list : isListed o ≡ true → h .list ≡ listed (g .list) (g .count) (register o) (file.index (h .regs)) (value o)
   pub count : isListed o ≡ true → h .count ≡ g .count + 1
 
--- the registers q after a store to the registers r: the board, the pending interrupts and the number of endpoints are kept
-pub record Kept (r q : Regs) (selection address : ℕ) : Type 0 where
-  pub board : q .board ≡ r .board
-  pub pending : q .pending ≡ r .pending
-  pub endpoints : length (q .eps) ≡ length (r .eps)
-  pub selected : q .index ≡ selection
-  pub addressed : q .faddr ≡ address
+-- the registers q after a store to the registers r: the pending interrupts are kept, and no register comes or goes
+pub record Kept (r q : File) (selection address : ℕ) : Type 0 where
+  pub usb : file.intrusb q ≡ file.intrusb r
+  pub intr : (d : Direction) → file.intrOf q d ≡ file.intrOf r d
+  pub whole : length q ≡ length r
+  pub selected : file.index q ≡ selection
+  pub addressed : file.faddr q ≡ address
 
 -- the same halts, SendStall, at 1 to 5
-abbrev pub SameHalts : Regs → Regs → Type 0
+abbrev pub SameHalts : File → File → Type 0
 SameHalts r q = (e : ℕ) (d : Direction) → (e ≡ 0 → ⊥) → sideAt q e d .stall ≡ sideAt r e d .stall

@@ -1,45 +1,36 @@
 -- The stores: what each does to the registers and what it lists. A store goes from a Log to a Log.
 -- Assumes nothing.
-use Prim.Native.Nat.{ℕ, _+_, _<_}
-use mathlib.Core.Path.{_≡_}
+use Prim.Native.Nat.{ℕ, _+_}
 use mathlib.Core.Bool.{cond}
 use mathlib.Core.List.{List}
 use lib.Dec.{eqb}
 use Rattle.laws.specs.Words.{raised}
 use Rattle.board.specs.declared.Direction.{Direction}
 use Rattle.board.specs.declared.Direction.the-variants.{Out, In}
-use Rattle.regs.specs.declared.Regs.{Regs}
-use Rattle.csr.specs.declared.Side.{Side}
 use Rattle.csr.specs.declared.Csr0l.{Csr0l}
 use Rattle.csr.specs.declared.Txcsrl.{Txcsrl}
 use Rattle.csr.specs.declared.Rxcsrl.{Rxcsrl}
 use Rattle.csr.specs.declared.Csr0lSet.{Csr0lSet}
 use Rattle.csr.specs.declared.TxcsrlSet.{TxcsrlSet}
 use Rattle.csr.specs.declared.RxcsrlSet.{RxcsrlSet}
-use Rattle.stores.specs.declared.Logged.{Logged}
-use Rattle.regs.specs.Registers.{Whole, withSide, withIndex, withFaddr, withPower, withEnable, chosen, withChosen, enabledOf, enabled}
+use Rattle.regs.specs.Registers.{File, index, withIndex, withFaddr, withPower, withIntrusbe, chosen, withChosen, enabledOf, withEnabled}
 use Rattle.csr.specs.Registers.{withIso, withMaxp, withLen}
 use Rattle.csr.specs.Control.{csr0lNumber, txcsrlNumber, rxcsrlNumber, txStored, rxStored, csr0lSet, txcsrlSet, rxcsrlSet}
 use Rattle.regs.specs.Control.{csr0lRead, txcsrlRead, rxcsrlRead, csr0lStored, csr0hFlushed}
 use Rattle.store_list.specs.Stores.{listed, FADDR, POWER, INDEX, CSR0L, CSR0H, TXCSRL, RXCSRL, INTRUSBE, FIFO, csrh, maxp, intre}
 
--- the registers, the lent list, and how many stores stand in it
+-- the register file, the lent list, and how many stores stand in it
 pub record Log : Type 0 where
-  pub regs : Regs
+  pub regs : File
   pub list : List ℕ
   pub count : ℕ
 
-abbrev pub log : Regs → List ℕ → ℕ → Log
+abbrev pub log : File → List ℕ → ℕ → Log
 log r l n = record { regs = r; list = l; count = n }
 
--- what a function that stores gives back, with its list
-abbrev pub logOf : Logged → List ℕ → Log
-logOf o l = record { regs = o .regs; list = l; count = o .n }
-
--- a store to a register that leaves the registers r: one more in the list. The selection is that of r, so that "an index store has the
--- new number in both places".
-unfoldable pub noted : ℕ → ℕ → Regs → List ℕ → ℕ → Log
-noted register value r l n = record { regs = r; list = listed l n register (r .index) value; count = n + 1 }
+-- a store to a register that leaves the registers r: one more in the list.
+unfoldable pub noted : ℕ → ℕ → File → List ℕ → ℕ → Log
+noted register value r l n = record { regs = r; list = listed l n register (index r) value; count = n + 1 }
 
 unfoldable pub writeFaddr : ℕ → Log → Log
 writeFaddr a g = noted FADDR a (withFaddr (g .regs) a) (g .list) (g .count)
@@ -48,8 +39,9 @@ writeFaddr a g = noted FADDR a (withFaddr (g .regs) a) (g .list) (g .count)
 unfoldable pub writePower : Log → Log
 writePower g = noted POWER 1 (withPower (g .regs) 1) (g .list) (g .count)
 
+-- "an index store has the new number in both places"
 unfoldable pub writeIndex : ℕ → Log → Log
-writeIndex e g = noted INDEX e (withIndex (g .regs) e) (g .list) (g .count)
+writeIndex e g = record { regs = withIndex (g .regs) e; list = listed (g .list) (g .count) INDEX e e; count = g .count + 1 }
 
 unfoldable pub writeCsr0l : Csr0l → Log → Log
 writeCsr0l w g = noted CSR0L (csr0lNumber w) (csr0lStored w (g .regs)) (g .list) (g .count)
@@ -82,22 +74,17 @@ unfoldable pub writeMaxp : Direction → ℕ → Log → Log
 writeMaxp d size g = noted (maxp d) size (withChosen (g .regs) d (withMaxp size (chosen (g .regs) d))) (g .list) (g .count)
 
 unfoldable pub writeIntrusbe : Log → Log
-writeIntrusbe g = noted INTRUSBE 7 (withEnable (g .regs) (record { usb = 7; tx = g .regs .enable .tx; rx = g .regs .enable .rx })) (g .list) (g .count)
+writeIntrusbe g = noted INTRUSBE 7 (withIntrusbe (g .regs) 7) (g .list) (g .count)
 
 -- intrtxe and intrrxe "hold what was written"
 unfoldable pub writeIntre : Direction → ℕ → Log → Log
-writeIntre d v g = noted (intre d) v (withEnable (g .regs) (enabled d v (g .regs .enable))) (g .list) (g .count)
+writeIntre d v g = noted (intre d) v (withEnabled d v (g .regs)) (g .list) (g .count)
 
 unfoldable pub modifyIntre : Direction → ℕ → Log → Log
-modifyIntre d e g = writeIntre d (raised (enabledOf d (g .regs .enable)) e) g
+modifyIntre d e g = writeIntre d (raised (enabledOf d (g .regs)) e) g
 
 -- "A packet written is one store whose value is its length; none if empty." It goes to the selected endpoint. The ready bit is set by
 -- a store after it: between the two a length stands with its ready bit clear, which no record at a call's end has. Of an empty packet
 -- the length is 0 already, or the record is refused (reply 16).
 unfoldable pub writePacket : ℕ → Log → Log
 writePacket n g = cond (eqb n 0) g (noted FIFO n (withChosen (g .regs) In (withLen n (chosen (g .regs) In))) (g .list) (g .count))
-
--- A store f that changes only a side of the selected endpoint e, told by that side: from the registers with the side s, list l and count n
--- it leads to those with the side t, list k and count m, whatever the other registers hold.
-pub record OnSide (f : Log → Log) (d : Direction) (e : ℕ) (s : Side) (l : List ℕ) (n : ℕ) (t : Side) (k : List ℕ) (m : ℕ) : Type 0 where
-  pub leads : (r : Regs) → Whole r → r .index ≡ e → e < 6 → log (withSide r e d t) k m ≡ f (log (withSide r e d s) l n)

@@ -1,226 +1,190 @@
-// Every store of the source: what it does to the registers, and its place in the lent list.
+// Every store of the source: what it does to the register file, and its place in the lent list.
 // A function that stores takes how many stores stand in the list and gives back how many stand there now.
 use board::Direction;
 use csr::Csr0l;
 use csr::Csr0lSet;
 use csr::Rxcsrl;
 use csr::RxcsrlSet;
-use csr::Side;
 use csr::Txcsrl;
 use csr::TxcsrlSet;
-use regs::Regs;
 ghost use mathlib.Core.Path.{_≡_};
 ghost use Prim.Native.Nat.{_+_, _*_, _≤_, _<_};
 ghost use lib.ListN.{length};
-ghost use Rattle.stores.specs.Stores.{log, logOf, noted, writeFaddr, writePower, writeIndex, writeCsr0l, writeTxcsrl, writeRxcsrl, modifyCsr0l, modifyTxcsrl, modifyRxcsrl, flushCsr0h, writeIso, writeMaxp, writeIntrusbe, writeIntre, modifyIntre, writePacket};
-ghost use Rattle.store_list.specs.Stores.{listed, selectListed};
-ghost use Rattle.regs.specs.Registers.{withIndex, withEnable, enabledOf, enabled};
-
-pub mod side;
-
-pub struct Logged {
-    pub regs: Regs,
-    pub n: usize,
-}
-
-// The same of one side.
-pub struct Sided {
-    pub side: Side,
-    pub n: usize,
-}
+ghost use Rattle.regs.specs.Registers.{enabledOf, withEnabled};
+ghost use Rattle.stores.specs.Stores.{log, noted, writeFaddr, writePower, writeIndex, writeCsr0l, writeTxcsrl, writeRxcsrl, modifyCsr0l, modifyTxcsrl, modifyRxcsrl, flushCsr0h, writeIso, writeMaxp, writeIntrusbe, writeIntre, modifyIntre, writePacket};
 
 // The store that left these registers, listed.
-fn note(r: Regs, list: &mut [u16], n: usize, register: u16, value: u16) -> Logged
+fn note(w: &[u16; 46], list: &mut [u16], n: usize, register: u16, value: u16) -> usize
     requires { ⌜ n * 3 + 3 ≤ length (now list) ⌝ }
-    ensures { λ o. ⌜ (logOf o (now (list .exit)) ≡ noted register value r (now (list .entry)) n) × (o .n ≡ n + 1) ⌝ }
+    ensures { λ m. ⌜ (log (now (w .entry)) (now (list .exit)) m ≡ noted register value (now (w .entry)) (now (list .entry)) n) × (m ≡ n + 1) ⌝ }
 {
-    let m = store_list::put(list, n, register, r.index, value);
-    Logged { regs: r, n: m }
+    store_list::put(list, n, register, w[regs::INDEX], value)
 }
 
-pub fn write_faddr(r: Regs, list: &mut [u16], n: usize, addr: u8) -> Logged
+pub fn write_faddr(w: &mut [u16; 46], list: &mut [u16], n: usize, addr: u8) -> usize
     requires { ⌜ n * 3 + 3 ≤ length (now list) ⌝ }
-    ensures { λ o. ⌜ (logOf o (now (list .exit)) ≡ writeFaddr addr (log r (now (list .entry)) n)) × (o .n ≡ n + 1) ⌝ }
+    ensures { λ m. ⌜ (log (now (w .exit)) (now (list .exit)) m ≡ writeFaddr addr (log (now (w .entry)) (now (list .entry)) n)) × (m ≡ n + 1) ⌝ }
 {
-    let mut s = r;
-    s.faddr = addr;
-    note(s, list, n, store_list::FADDR, addr as u16)
+    w[regs::FADDR] = addr as u16;
+    note(w, list, n, store_list::FADDR, addr as u16)
 }
 
-pub fn write_power(r: Regs, list: &mut [u16], n: usize) -> Logged
+pub fn write_power(w: &mut [u16; 46], list: &mut [u16], n: usize) -> usize
     requires { ⌜ n * 3 + 3 ≤ length (now list) ⌝ }
-    ensures { λ o. ⌜ (logOf o (now (list .exit)) ≡ writePower (log r (now (list .entry)) n)) × (o .n ≡ n + 1) ⌝ }
+    ensures { λ m. ⌜ (log (now (w .exit)) (now (list .exit)) m ≡ writePower (log (now (w .entry)) (now (list .entry)) n)) × (m ≡ n + 1) ⌝ }
 {
-    let mut s = r;
-    s.power = 1;
-    note(s, list, n, store_list::POWER, 1)
+    w[regs::POWER] = 1;
+    note(w, list, n, store_list::POWER, 1)
 }
 
-// The index store in its two halves, for loops: registers that stay in one place, instead of going into a `Logged` and out again, are
-// not copied.
-pub fn select(r: Regs, e: u8) -> Regs
-    ensures { λ s. ⌜ s ≡ withIndex r e ⌝ }
-{
-    let mut s = r;
-    s.index = e;
-    s
-}
-
-pub fn note_select(list: &mut [u16], n: usize, e: u8) -> usize
+pub fn write_index(w: &mut [u16; 46], list: &mut [u16], n: usize, e: u8) -> usize
     requires { ⌜ n * 3 + 3 ≤ length (now list) ⌝ }
-    ensures { λ m. ⌜ (m ≡ n + 1) × (now (list .exit) ≡ selectListed (now (list .entry)) n e) ⌝ }
+    ensures { λ m. ⌜ (log (now (w .exit)) (now (list .exit)) m ≡ writeIndex e (log (now (w .entry)) (now (list .entry)) n)) × (m ≡ n + 1) ⌝ }
 {
-    store_list::put(list, n, store_list::INDEX, e, e as u16)
+    w[regs::INDEX] = e as u16;
+    store_list::put(list, n, store_list::INDEX, e as u16, e as u16)
 }
 
-pub fn write_index(r: Regs, list: &mut [u16], n: usize, e: u8) -> Logged
+pub fn write_csr0l(w: &mut [u16; 46], list: &mut [u16], n: usize, v: Csr0l) -> usize
     requires { ⌜ n * 3 + 3 ≤ length (now list) ⌝ }
-    ensures { λ o. ⌜ (logOf o (now (list .exit)) ≡ writeIndex e (log r (now (list .entry)) n)) × (o .n ≡ n + 1) ⌝ }
+    ensures { λ m. ⌜ (log (now (w .exit)) (now (list .exit)) m ≡ writeCsr0l v (log (now (w .entry)) (now (list .entry)) n)) × (m ≡ n + 1) ⌝ }
 {
-    let s = select(r, e);
-    let m = note_select(list, n, e);
-    Logged { regs: s, n: m }
+    regs::store_csr0l(w, v);
+    note(w, list, n, store_list::CSR0L, csr::csr0l_number(v))
 }
 
-pub fn write_csr0l(r: Regs, list: &mut [u16], n: usize, w: Csr0l) -> Logged
+pub fn write_txcsrl(w: &mut [u16; 46], list: &mut [u16], n: usize, v: Txcsrl) -> usize
     requires { ⌜ n * 3 + 3 ≤ length (now list) ⌝ }
-    ensures { λ o. ⌜ (logOf o (now (list .exit)) ≡ writeCsr0l w (log r (now (list .entry)) n)) × (o .n ≡ n + 1) ⌝ }
+    ensures { λ m. ⌜ (log (now (w .exit)) (now (list .exit)) m ≡ writeTxcsrl v (log (now (w .entry)) (now (list .entry)) n)) × (m ≡ n + 1) ⌝ }
 {
-    let s = regs::csr0l_stored(w, r);
-    note(s, list, n, store_list::CSR0L, csr::csr0l_number(w))
+    let e = w[regs::INDEX];
+    let s = csr::tx_stored(v, regs::side_at(w, e, Direction::In));
+    regs::put_side(w, e, Direction::In, s);
+    note(w, list, n, store_list::TXCSRL, csr::txcsrl_number(v))
 }
 
-pub fn write_txcsrl(r: Regs, list: &mut [u16], n: usize, w: Txcsrl) -> Logged
+pub fn write_rxcsrl(w: &mut [u16; 46], list: &mut [u16], n: usize, v: Rxcsrl) -> usize
     requires { ⌜ n * 3 + 3 ≤ length (now list) ⌝ }
-    ensures { λ o. ⌜ (logOf o (now (list .exit)) ≡ writeTxcsrl w (log r (now (list .entry)) n)) × (o .n ≡ n + 1) ⌝ }
+    ensures { λ m. ⌜ (log (now (w .exit)) (now (list .exit)) m ≡ writeRxcsrl v (log (now (w .entry)) (now (list .entry)) n)) × (m ≡ n + 1) ⌝ }
 {
-    let t = csr::tx_stored(w, regs::side_at(r, r.index, Direction::In));
-    let s = regs::with_side(r, r.index, Direction::In, t);
-    note(s, list, n, store_list::TXCSRL, csr::txcsrl_number(w))
+    let e = w[regs::INDEX];
+    let s = csr::rx_stored(v, regs::side_at(w, e, Direction::Out));
+    regs::put_side(w, e, Direction::Out, s);
+    note(w, list, n, store_list::RXCSRL, csr::rxcsrl_number(v))
 }
 
-pub fn write_rxcsrl(r: Regs, list: &mut [u16], n: usize, w: Rxcsrl) -> Logged
+pub fn modify_csr0l(w: &mut [u16; 46], list: &mut [u16], n: usize, s: Csr0lSet) -> usize
     requires { ⌜ n * 3 + 3 ≤ length (now list) ⌝ }
-    ensures { λ o. ⌜ (logOf o (now (list .exit)) ≡ writeRxcsrl w (log r (now (list .entry)) n)) × (o .n ≡ n + 1) ⌝ }
+    ensures { λ m. ⌜ (log (now (w .exit)) (now (list .exit)) m ≡ modifyCsr0l s (log (now (w .entry)) (now (list .entry)) n)) × (m ≡ n + 1) ⌝ }
 {
-    let t = csr::rx_stored(w, regs::side_at(r, r.index, Direction::Out));
-    let s = regs::with_side(r, r.index, Direction::Out, t);
-    note(s, list, n, store_list::RXCSRL, csr::rxcsrl_number(w))
+    let v = csr::csr0l_set(s, regs::read_csr0l(w));
+    write_csr0l(w, list, n, v)
 }
 
-pub fn modify_csr0l(r: Regs, list: &mut [u16], n: usize, s: Csr0lSet) -> Logged
+pub fn modify_txcsrl(w: &mut [u16; 46], list: &mut [u16], n: usize, s: TxcsrlSet) -> usize
     requires { ⌜ n * 3 + 3 ≤ length (now list) ⌝ }
-    ensures { λ o. ⌜ (logOf o (now (list .exit)) ≡ modifyCsr0l s (log r (now (list .entry)) n)) × (o .n ≡ n + 1) ⌝ }
+    ensures { λ m. ⌜ (log (now (w .exit)) (now (list .exit)) m ≡ modifyTxcsrl s (log (now (w .entry)) (now (list .entry)) n)) × (m ≡ n + 1) ⌝ }
 {
-    let w = csr::csr0l_set(s, regs::read_csr0l(r));
-    write_csr0l(r, list, n, w)
+    let v = csr::txcsrl_set(s, regs::read_txcsrl(w));
+    write_txcsrl(w, list, n, v)
 }
 
-pub fn modify_txcsrl(r: Regs, list: &mut [u16], n: usize, s: TxcsrlSet) -> Logged
+pub fn modify_rxcsrl(w: &mut [u16; 46], list: &mut [u16], n: usize, s: RxcsrlSet) -> usize
     requires { ⌜ n * 3 + 3 ≤ length (now list) ⌝ }
-    ensures { λ o. ⌜ (logOf o (now (list .exit)) ≡ modifyTxcsrl s (log r (now (list .entry)) n)) × (o .n ≡ n + 1) ⌝ }
+    ensures { λ m. ⌜ (log (now (w .exit)) (now (list .exit)) m ≡ modifyRxcsrl s (log (now (w .entry)) (now (list .entry)) n)) × (m ≡ n + 1) ⌝ }
 {
-    let w = csr::txcsrl_set(s, regs::read_txcsrl(r));
-    write_txcsrl(r, list, n, w)
+    let v = csr::rxcsrl_set(s, regs::read_rxcsrl(w));
+    write_rxcsrl(w, list, n, v)
 }
 
-pub fn modify_rxcsrl(r: Regs, list: &mut [u16], n: usize, s: RxcsrlSet) -> Logged
+// CSR0H reads 0, so that `modify` with the flush bit stores that bit alone.
+pub fn flush_csr0h(w: &mut [u16; 46], list: &mut [u16], n: usize) -> usize
     requires { ⌜ n * 3 + 3 ≤ length (now list) ⌝ }
-    ensures { λ o. ⌜ (logOf o (now (list .exit)) ≡ modifyRxcsrl s (log r (now (list .entry)) n)) × (o .n ≡ n + 1) ⌝ }
+    ensures { λ m. ⌜ (log (now (w .exit)) (now (list .exit)) m ≡ flushCsr0h (log (now (w .entry)) (now (list .entry)) n)) × (m ≡ n + 1) ⌝ }
 {
-    let w = csr::rxcsrl_set(s, regs::read_rxcsrl(r));
-    write_rxcsrl(r, list, n, w)
+    regs::flush_csr0h(w);
+    note(w, list, n, store_list::CSR0H, 1)
 }
 
-// store_list::CSR0H reads 0, so that `modify` with the flush bit stores that bit alone.
-pub fn flush_csr0h(r: Regs, list: &mut [u16], n: usize) -> Logged
+pub fn write_iso(w: &mut [u16; 46], list: &mut [u16], n: usize, d: Direction) -> usize
     requires { ⌜ n * 3 + 3 ≤ length (now list) ⌝ }
-    ensures { λ o. ⌜ (logOf o (now (list .exit)) ≡ flushCsr0h (log r (now (list .entry)) n)) × (o .n ≡ n + 1) ⌝ }
+    ensures { λ m. ⌜ (log (now (w .exit)) (now (list .exit)) m ≡ writeIso d (log (now (w .entry)) (now (list .entry)) n)) × (m ≡ n + 1) ⌝ }
 {
-    let s = regs::csr0h_flushed(r);
-    note(s, list, n, store_list::CSR0H, 1)
+    let e = w[regs::INDEX];
+    let mut s = regs::side_at(w, e, d);
+    s.iso = true;
+    regs::put_side(w, e, d, s);
+    note(w, list, n, store_list::csrh_of(d), 64)
 }
 
-pub fn write_iso(r: Regs, list: &mut [u16], n: usize, d: Direction) -> Logged
+pub fn write_maxp(w: &mut [u16; 46], list: &mut [u16], n: usize, d: Direction, size: u16) -> usize
     requires { ⌜ n * 3 + 3 ≤ length (now list) ⌝ }
-    ensures { λ o. ⌜ (logOf o (now (list .exit)) ≡ writeIso d (log r (now (list .entry)) n)) × (o .n ≡ n + 1) ⌝ }
+    ensures { λ m. ⌜ (log (now (w .exit)) (now (list .exit)) m ≡ writeMaxp d size (log (now (w .entry)) (now (list .entry)) n)) × (m ≡ n + 1) ⌝ }
 {
-    let mut t = regs::side_at(r, r.index, d);
-    t.iso = true;
-    let s = regs::with_side(r, r.index, d, t);
-    note(s, list, n, store_list::csrh_of(d), 64)
+    let e = w[regs::INDEX];
+    let mut s = regs::side_at(w, e, d);
+    s.maxp = size;
+    regs::put_side(w, e, d, s);
+    note(w, list, n, store_list::maxp_of(d), size)
 }
 
-pub fn write_maxp(r: Regs, list: &mut [u16], n: usize, d: Direction, size: u16) -> Logged
+pub fn write_intrusbe(w: &mut [u16; 46], list: &mut [u16], n: usize) -> usize
     requires { ⌜ n * 3 + 3 ≤ length (now list) ⌝ }
-    ensures { λ o. ⌜ (logOf o (now (list .exit)) ≡ writeMaxp d size (log r (now (list .entry)) n)) × (o .n ≡ n + 1) ⌝ }
+    ensures { λ m. ⌜ (log (now (w .exit)) (now (list .exit)) m ≡ writeIntrusbe (log (now (w .entry)) (now (list .entry)) n)) × (m ≡ n + 1) ⌝ }
 {
-    let mut t = regs::side_at(r, r.index, d);
-    t.maxp = size;
-    let s = regs::with_side(r, r.index, d, t);
-    note(s, list, n, store_list::maxp_of(d), size)
+    w[regs::INTRUSBE] = 7;
+    note(w, list, n, store_list::INTRUSBE, 7)
 }
 
-pub fn write_intrusbe(r: Regs, list: &mut [u16], n: usize) -> Logged
-    requires { ⌜ n * 3 + 3 ≤ length (now list) ⌝ }
-    ensures { λ o. ⌜ (logOf o (now (list .exit)) ≡ writeIntrusbe (log r (now (list .entry)) n)) × (o .n ≡ n + 1) ⌝ }
-{
-    let mut s = r;
-    s.enable.usb = 7;
-    note(s, list, n, store_list::INTRUSBE, 7)
-}
-
-fn enable_of(r: Regs, d: Direction) -> u16
-    ensures { λ v. ⌜ v ≡ enabledOf d (r .enable) ⌝ }
+fn enable_of(w: &[u16; 46], d: Direction) -> u16
+    ensures { λ v. ⌜ v ≡ enabledOf d (now (w .entry)) ⌝ }
 {
     match d {
-        Direction::Out => r.enable.rx,
-        Direction::In => r.enable.tx,
+        Direction::Out => w[regs::INTRRXE],
+        Direction::In => w[regs::INTRTXE],
     }
 }
 
-fn with_enable(r: Regs, d: Direction, v: u16) -> Regs
-    ensures { λ o. ⌜ o ≡ withEnable r (enabled d v (r .enable)) ⌝ }
+fn put_enable(w: &mut [u16; 46], d: Direction, v: u16)
+    ensures { λ _. ⌜ now (w .exit) ≡ withEnabled d v (now (w .entry)) ⌝ }
 {
-    let mut o = r;
     match d {
         Direction::Out => {
-            o.enable.rx = v;
-            return o;
+            w[regs::INTRRXE] = v;
         }
         Direction::In => {
-            o.enable.tx = v;
-            return o;
+            w[regs::INTRTXE] = v;
         }
     }
 }
 
-pub fn write_intre(r: Regs, list: &mut [u16], n: usize, d: Direction, v: u16) -> Logged
+pub fn write_intre(w: &mut [u16; 46], list: &mut [u16], n: usize, d: Direction, v: u16) -> usize
     requires { ⌜ n * 3 + 3 ≤ length (now list) ⌝ }
-    ensures { λ o. ⌜ (logOf o (now (list .exit)) ≡ writeIntre d v (log r (now (list .entry)) n)) × (o .n ≡ n + 1) ⌝ }
+    ensures { λ m. ⌜ (log (now (w .exit)) (now (list .exit)) m ≡ writeIntre d v (log (now (w .entry)) (now (list .entry)) n)) × (m ≡ n + 1) ⌝ }
 {
-    let s = with_enable(r, d, v);
-    note(s, list, n, store_list::intre_of(d), v)
+    put_enable(w, d, v);
+    note(w, list, n, store_list::intre_of(d), v)
 }
 
-pub fn modify_intre(r: Regs, list: &mut [u16], n: usize, d: Direction, e: u8) -> Logged
+pub fn modify_intre(w: &mut [u16; 46], list: &mut [u16], n: usize, d: Direction, e: u8) -> usize
     requires { ⌜ (e < 16) × (n * 3 + 3 ≤ length (now list)) ⌝ }
-    ensures { λ o. ⌜ (logOf o (now (list .exit)) ≡ modifyIntre d e (log r (now (list .entry)) n)) × (o .n ≡ n + 1) ⌝ }
+    ensures { λ m. ⌜ (log (now (w .exit)) (now (list .exit)) m ≡ modifyIntre d e (log (now (w .entry)) (now (list .entry)) n)) × (m ≡ n + 1) ⌝ }
 {
-    let v = laws::raise(enable_of(r, d), e);
-    write_intre(r, list, n, d, v)
+    let v = laws::raise(enable_of(w, d), e);
+    write_intre(w, list, n, d, v)
 }
 
-// A packet of m bytes stands in the selected endpoint's transmit area: one store, none if it is empty.
-pub fn write_packet(r: Regs, list: &mut [u16], n: usize, m: u16) -> Logged
+// A packet of so many bytes stands in the selected endpoint's transmit area: one store, none if it is empty.
+pub fn write_packet(w: &mut [u16; 46], list: &mut [u16], n: usize, len: u16) -> usize
     requires { ⌜ n * 3 + 3 ≤ length (now list) ⌝ }
-    ensures { λ o. ⌜ (logOf o (now (list .exit)) ≡ writePacket m (log r (now (list .entry)) n)) × (o .n ≤ n + 1) ⌝ }
+    ensures { λ m. ⌜ (log (now (w .exit)) (now (list .exit)) m ≡ writePacket len (log (now (w .entry)) (now (list .entry)) n)) × (m ≤ n + 1) ⌝ }
 {
-    if m == 0 {
-        return Logged { regs: r, n: n };
+    if len == 0 {
+        return n;
     }
-    let mut t = regs::side_at(r, r.index, Direction::In);
-    t.len = m;
-    let s = regs::with_side(r, r.index, Direction::In, t);
-    note(s, list, n, store_list::FIFO, m)
+    let e = w[regs::INDEX];
+    let mut s = regs::side_at(w, e, Direction::In);
+    s.len = len;
+    regs::put_side(w, e, Direction::In, s);
+    note(w, list, n, store_list::FIFO, len)
 }

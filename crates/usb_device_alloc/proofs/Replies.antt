@@ -17,7 +17,7 @@ use Rattle.alloc_endpoint.proofs.Changes.{refused-keeps}
 use Rattle.record.specs.declared.Record.{Record}
 use Rattle.record.specs.declared.Refusal.{Refusal}
 use Rattle.record.specs.declared.Refusal.the-variants.{BadRecord}
-use Rattle.record.specs.Record.{recordSound, entryBy, withEndpoints}
+use Rattle.record.specs.Record.{recordSound, admissionBy, withEndpoints}
 use Rattle.usb_device_alloc.specs.declared.Allocation.the-variants as allocation
 use Rattle.usb_device_alloc.specs.declared.AllocEp.{AllocEp}
 use Rattle.usb_device_alloc.specs.Calls.{allocated, handed, unlessAllocated, allocEp, allocEpCall}
@@ -45,7 +45,7 @@ not-refused (answer.Refused y) e = let z : _≡_ {A = ℕ} 0 1 = cc in absurd (o
 
 allocates : (k : Record) (o : Allocated) (b : Bool) → recordSound k ≡ b
     → ((x : EndpointAllocError) → o .answer ≡ answer.Refused x → o .endpoints ≡ k .endpoints)
-    → Allocates (unlessAllocated (entryBy false b false) k (handed k o)) k o
+    → Allocates (unlessAllocated (admissionBy false b false) k (handed k o)) k o
 allocates k o false s keeps = record {
   bad = (λ e. s, λ e. refl);
   asked = λ e. both (sym s ∙ e);

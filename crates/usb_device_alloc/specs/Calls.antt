@@ -1,10 +1,12 @@
 -- What the call `alloc_ep` of the source's usb_device_impl/mod.rs gives back, refused too. No list is lent.
 -- Assumes nothing.
 use Prim.Native.Nat.{ℕ}
-use mathlib.Core.Bool.{false}
+use mathlib.Core.Bool.{Bool, false, cond}
 use mathlib.Core.List.{List, [], _∷_}
+use Rattle.board.specs.declared.Row.{Row}
 use Rattle.board.specs.Boards.{rows}
 use Rattle.endpoints.specs.declared.Wanted.{Wanted}
+use Rattle.endpoints.specs.declared.EndpointData.{EndpointData}
 use Rattle.alloc_endpoint.specs.declared.Allocated.{Allocated}
 use Rattle.endpoints.specs.declared.Answer.{Answer}
 use Rattle.endpoints.specs.declared.Answer.the-variants as answer
@@ -12,12 +14,14 @@ use Rattle.endpoints.specs.Endpoints.{Ask}
 use Rattle.alloc_endpoint.specs.Allocate.{allocate}
 use Rattle.endpoints.specs.Numbers.{errorNumber}
 use Rattle.record.specs.declared.Record.{Record}
-use Rattle.record.specs.declared.Entry.{Entry}
-use Rattle.record.specs.declared.Entry.the-variants.{Clear, Refused}
-use Rattle.record.specs.Record.{recordSound, entryBy, refusalNumber, withEndpoints}
+use Rattle.record.specs.declared.Refusal.the-variants.{BadRecord}
+use Rattle.record.specs.declared.Admission.{Admission}
+use Rattle.record.specs.declared.Admission.the-variants.{Clear, Refused}
+use Rattle.record.specs.Record.{recordSound, admissionBy, refusalNumber, withEndpoints}
 use Rattle.usb_device_alloc.specs.declared.Allocation.{Allocation}
 use Rattle.usb_device_alloc.specs.declared.Allocation.the-variants as allocation
 use Rattle.usb_device_alloc.specs.declared.AllocEp.{AllocEp}
+use Rattle.usb_device_alloc.specs.declared.Assigned.{Assigned}
 
 -- `alloc_ep`: what alloc_endpoint answers and the endpoints that it gives back. No list is lent.
 abbrev pub allocated : Answer → Allocation
@@ -30,12 +34,19 @@ handed k o = record { answer = allocated (o .answer); «record» = withEndpoints
 unfoldable pub allocEp : Record → Ask → Wanted → AllocEp
 allocEp k q w = handed k (allocate (rows (k .regs .board)) (k .endpoints) q w)
 
-abbrev pub unlessAllocated : Entry → Record → AllocEp → AllocEp
+abbrev pub unlessAllocated : Admission → Record → AllocEp → AllocEp
 unlessAllocated (Refused x) k a = record { answer = allocation.Refused x; «record» = k }
 unlessAllocated Clear k a = a
 
 unfoldable pub allocEpCall : Record → Ask → Wanted → AllocEp
-allocEpCall k q w = unlessAllocated (entryBy false (recordSound k) false) k (allocEp k q w)
+allocEpCall k q w = unlessAllocated (admissionBy false (recordSound k) false) k (allocEp k q w)
+
+-- the same by the parts of the record that it looks at and changes: the endpoints alone. Of the first tests only reply 16's is left.
+abbrev pub assigned : Allocated → Assigned
+assigned o = record { answer = allocated (o .answer); endpoints = o .endpoints }
+
+unfoldable pub assignedIf : Bool → List Row → List EndpointData → Ask → Wanted → Assigned
+assignedIf ok t es q w = cond ok (assigned (allocate t es q w)) (record { answer = allocation.Refused BadRecord; endpoints = es })
 
 abbrev pub allocationNumber : Allocation → ℕ
 allocationNumber (allocation.Done n) = 0

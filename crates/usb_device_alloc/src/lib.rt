@@ -1,16 +1,17 @@
 // The call `alloc_ep` of the source's usb_device_impl/mod.rs: an endpoint by the source's alloc_endpoint.rs. No list is lent.
+use board::Board;
 use board::Direction;
 use endpoints::Answer;
 use endpoints::EndpointAllocError;
+use endpoints::EndpointData;
 use endpoints::EndpointType;
 use endpoints::Wanted;
-use record::Entry;
 use record::Record;
 use record::Refusal;
 ghost use mathlib.Core.Path.{_≡_};
+ghost use Rattle.board.specs.Boards.{rows};
 ghost use Rattle.endpoints.specs.Endpoints.{ask};
-ghost use mathlib.Core.Bool.{false};
-ghost use Rattle.usb_device_alloc.specs.Calls.{allocated, allocEp, allocEpCall, allocationNumber};
+ghost use Rattle.usb_device_alloc.specs.Calls.{allocated, assignedIf, allocEpCall, allocationNumber};
 
 // The answer of `alloc_ep`: the endpoint, or the source's own error, before the trait's takes its place.
 pub enum Allocation {
@@ -34,31 +35,35 @@ fn handed_on(a: Answer) -> Allocation
     }
 }
 
+// The answer and the endpoints, which are all that `alloc_ep` changes.
+struct Assigned {
+    answer: Allocation,
+    endpoints: [EndpointData; 6],
+}
+
 fn allocate(
-    k: Record,
+    ok: bool,
+    b: Board,
+    e: [EndpointData; 6],
     ep_dir: Direction,
     ep_addr: Wanted,
     ep_type: EndpointType,
     max_packet_size: u16,
-) -> AllocEp
-    ensures { λ a. ⌜ a ≡ allocEp k (ask «ep_type» «ep_dir» «max_packet_size») «ep_addr» ⌝ }
+) -> Assigned
+    ensures { λ o. ⌜ o ≡ assignedIf ok (rows b) e (ask «ep_type» «ep_dir» «max_packet_size») «ep_addr» ⌝ }
 {
-    let r = k.regs;
-    let e = k.endpoints;
-    let c = k.control_state;
-    let f = k.irq;
-    let b = r.board;
-    let o = alloc_endpoint::alloc_endpoint(b, e, ep_type, ep_addr, ep_dir, max_packet_size);
-    let a = o.answer;
-    let next = o.endpoints;
-    AllocEp {
-        answer: handed_on(a),
-        record: Record {
-            regs: r,
+    if ok {
+        let o = alloc_endpoint::alloc_endpoint(b, e, ep_type, ep_addr, ep_dir, max_packet_size);
+        let a = o.answer;
+        let next = o.endpoints;
+        return Assigned {
+            answer: handed_on(a),
             endpoints: next,
-            control_state: c,
-            irq: f,
-        },
+        };
+    }
+    Assigned {
+        answer: Allocation::Refused(Refusal::BadRecord),
+        endpoints: e,
     }
 }
 
@@ -72,13 +77,24 @@ pub fn alloc_ep(
 ) -> AllocEp
     ensures { λ a. ⌜ a ≡ allocEpCall k (ask «ep_type» «ep_dir» «max_packet_size») «ep_addr» ⌝ }
 {
-    let t = record::admit(false, k, false);
-    match t {
-        Entry::Refused(x) => AllocEp {
-            answer: Allocation::Refused(x),
-            record: k,
+    let r = k.regs;
+    let b = r.board;
+    let w = r.words;
+    let e = k.endpoints;
+    let c = k.control_state;
+    let f = k.irq;
+    let ok = record::sound(b, &w, f);
+    let o = allocate(ok, b, e, ep_dir, ep_addr, ep_type, max_packet_size);
+    let a = o.answer;
+    let next = o.endpoints;
+    AllocEp {
+        answer: a,
+        record: Record {
+            regs: r,
+            endpoints: next,
+            control_state: c,
+            irq: f,
         },
-        Entry::Clear => allocate(k, ep_dir, ep_addr, ep_type, max_packet_size),
     }
 }
 

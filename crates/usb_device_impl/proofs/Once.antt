@@ -23,7 +23,7 @@ pub enable : (κs : Lfts 1) (a : Dens κs enable-kinds.ps) (x y : resT enable-ki
 enable κs a x y e f p q = (ap (λ (o : Outcome). o .call) (p ∙ sym q), ap (λ (o : Outcome). o .list) (p ∙ sym q))
 
 pub set-device-address : (κs : Lfts 1) (a : Dens κs set-device-address-kinds.ps) (x y : resT set-device-address-kinds.r κs .Denot) (e f : AtExit (endedOf 1 set-device-address-kinds.ps set-device-address-kinds.r) κs)
-    → set-device-address-reads.Post κs a x e → set-device-address-reads.Post κs a y f → (x ≡ y) × (now (e .1 .0) ≡ now (f .1 .0))
+    → set-device-address-reads.Post κs a x e → set-device-address-reads.Post κs a y f → (x ≡ y) × (now (e .1 .1 .0) ≡ now (f .1 .1 .0))
 set-device-address κs a x y e f p q = (ap (λ (o : Outcome). o .call) (p ∙ sym q), ap (λ (o : Outcome). o .list) (p ∙ sym q))
 
 pub force-reset : (κs : Lfts 0) (a : Dens κs force-reset-kinds.ps) (x y : resT force-reset-kinds.r κs .Denot) (e f : AtExit (endedOf 0 force-reset-kinds.ps force-reset-kinds.r) κs)

@@ -11,9 +11,9 @@ use Rattle.stores.specs.Stores.{Log, writeFaddr}
 use Rattle.record.specs.declared.Record.{Record}
 use Rattle.record.specs.declared.Refusal.{Refusal}
 use Rattle.record.specs.declared.Refusal.the-variants.{NoSuchEndpoint, BadAddress, TooLittleLent, BadRecord}
-use Rattle.record.specs.declared.Entry.{Entry}
-use Rattle.record.specs.declared.Entry.the-variants.{Clear, Refused}
-use Rattle.record.specs.Record.{recordSound, entryBy}
+use Rattle.record.specs.declared.Admission.{Admission}
+use Rattle.record.specs.declared.Admission.the-variants.{Clear, Refused}
+use Rattle.record.specs.Record.{recordSound, admissionBy}
 use Rattle.record.proofs.Rows.{Row, row, first, then, Given, None, alone, rows-at, rows-lent, given-exactly, clear-exactly}
 use Rattle.usb_device_impl.specs.declared.Reply.the-variants as reply
 use Rattle.usb_device_impl.specs.Calls.{Outcome, refused, stored, unless, short, begun, beyond, addressEntry, busInitCall, enableCall, addressCall, forceResetCall, replyNumber}
@@ -47,7 +47,7 @@ same e = cc
 same-reply : {x y : Refusal} → reply.Refused x ≡ reply.Refused y → x ≡ y
 same-reply e = cc
 
-pub answers : (k : Record) (l : List ℕ) (c : ControlState) (g : Log) (t : Entry) (rs : List Row) → t ≡ first rs → Answers (unless t k l (stored k c g)) k l rs
+pub answers : (k : Record) (l : List ℕ) (c : ControlState) (g : Log) (t : Admission) (rs : List Row) → t ≡ first rs → Answers (unless t k l (stored k c g)) k l rs
 answers k l c g (Refused y) rs e = record {
   refusals = λ x.
       (λ p. given-exactly x rs .0 (sym e ∙ ap Refused (same-reply p)), λ q. ap reply.Refused (same (e ∙ given-exactly x rs .1 q)));
@@ -60,20 +60,20 @@ answers k l c g Clear rs e = record {
   unchanged = λ x p. clash (sym p);
 }
 
-pub lent : (k : Record) (l : List ℕ) → entryBy (short l) (recordSound k) false ≡ first (listRows k l)
+pub lent : (k : Record) (l : List ℕ) → admissionBy (short l) (recordSound k) false ≡ first (listRows k l)
 lent k l = alone _ ∙ rows-lent [] (short l) (recordSound k)
 
-pub at-endpoint : (k : Record) (e : ℕ) (l : List ℕ) → entryBy (short l) (recordSound k) (beyond k e) ≡ first (endpointRows k e l)
+pub at-endpoint : (k : Record) (e : ℕ) (l : List ℕ) → admissionBy (short l) (recordSound k) (beyond k e) ≡ first (endpointRows k e l)
 at-endpoint k e l = alone _ ∙ rows-at [] (short l) (recordSound k) (beyond k e)
 
-addressed : (t : Entry) (b : Bool) → addressEntry t b ≡ then t (first (row BadAddress (not b) ∷ []))
+addressed : (t : Admission) (b : Bool) → addressEntry t b ≡ then t (first (row BadAddress (not b) ∷ []))
 addressed (Refused x) b = refl
 addressed Clear true = refl
 addressed Clear false = refl
 
-at-address : (k : Record) (a : ℕ) (l : List ℕ) → addressEntry (entryBy (short l) (recordSound k) false) (leb a 127) ≡ first (addressRows k a l)
+at-address : (k : Record) (a : ℕ) (l : List ℕ) → addressEntry (admissionBy (short l) (recordSound k) false) (leb a 127) ≡ first (addressRows k a l)
 at-address k a l =
-    addressed (entryBy (short l) (recordSound k) false) (leb a 127) ∙ rows-lent (row BadAddress (not (leb a 127)) ∷ []) (short l) (recordSound k)
+    addressed (admissionBy (short l) (recordSound k) false) (leb a 127) ∙ rows-lent (row BadAddress (not (leb a 127)) ∷ []) (short l) (recordSound k)
 
 -- the calls
 module _ (k : Record) (l : List ℕ) where
@@ -88,7 +88,7 @@ module _ (k : Record) (l : List ℕ) where
   pub set-device-address : (a : ℕ) → Answers (addressCall k a l) k l (addressRows k a l)
   unfolding addressCall
   set-device-address a =
-      answers k l (k .«control_state») (writeFaddr a (begun k l)) (addressEntry (entryBy (short l) (recordSound k) false) (leb a 127)) (addressRows k a l) (at-address k a l)
+      answers k l (k .«control_state») (writeFaddr a (begun k l)) (addressEntry (admissionBy (short l) (recordSound k) false) (leb a 127)) (addressRows k a l) (at-address k a l)
 
 pub both : {A : Type 0} → false ≡ true → A
 both e = let z : _≡_ {A = ℕ} 0 1 = cc in absurd (omega arith)

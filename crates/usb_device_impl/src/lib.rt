@@ -1,25 +1,26 @@
 // The simple calls of the source's usb_device_impl/mod.rs: the bus and the address; and what every call begins and ends with.
 // A call takes the record by value, any numbers and any lent list, tests what document 01 refuses before anything changes, and gives back
-// its answer, the record and how many stores stand in the list.
+// its answer, the record and how many stores stand in the list. It takes the record apart once: what runs below it is lent the register
+// file and takes only the other parts that it looks at.
+use board::Board;
 use control_state::ControlState;
 use control_state::ControlStateEnum;
-use record::Entry;
+use record::Admission;
+use record::Flags;
 use record::Record;
 use record::Refusal;
-use stores::Logged;
+use regs::Regs;
 ghost use mathlib.Core.Path.{_≡_};
 ghost use Prim.Native.Nat.{_≤_, _<_};
-ghost use Rattle.record.specs.Record.{recordSound, entryBy};
+ghost use Rattle.stores.specs.Stores.{log};
+ghost use Rattle.record.specs.Record.{passes, admissionBy, endpointsIn, listNeed};
 ghost use lib.Dec.{leb, ltb};
 ghost use mathlib.Core.Bool.{false};
-ghost use Rattle.record.specs.declared.Entry.the-variants.{Clear};
-ghost use Rattle.usb_device_impl.specs.Calls.{done, refused, beyond, addressEntry, busInitCall, enableCall, addressCall, idled, forceResetCall, replyNumber};
+ghost use Rattle.record.specs.declared.Admission.the-variants.{Clear};
+ghost use Rattle.usb_device_impl.specs.Calls.{ranDone, ranRefused, ended, left, addressEntry, busInitRan, enableRan, addressRan, busInitCall, enableCall, addressCall, idled, forceResetCall, replyNumber};
 
 // The source's constant: the address is set before the status stage of its request.
 pub const QUIRK_SET_ADDRESS_BEFORE_STATUS: bool = true;
-
-// Document 01: "The list must hold 128 stores", three numbers each.
-const LIST: usize = 384;
 
 // The answer of a call that has no value.
 pub enum Reply {
@@ -33,17 +34,49 @@ pub struct Called {
     pub stores: usize,
 }
 
+// What a call leaves besides the registers: how many stores stand in the list, and the control state.
+pub struct Ran {
+    pub answer: Reply,
+    pub n: usize,
+    pub control_state: ControlState,
+}
+
 // What a call leaves that has made its stores.
-pub fn finish(k: Record, c: ControlState, o: Logged) -> Called
-    ensures { λ a. ⌜ a ≡ done k c (o .regs) (o .n) ⌝ }
+pub fn done(n: usize, c: ControlState) -> Ran
+    ensures { λ o. ⌜ o ≡ ranDone n c ⌝ }
 {
-    let r = o.regs;
+    Ran {
+        answer: Reply::Done,
+        n: n,
+        control_state: c,
+    }
+}
+
+// What a refused call leaves: all as it was.
+pub fn refuse(x: Refusal, c: ControlState) -> Ran
+    ensures { λ o. ⌜ o ≡ ranRefused x c ⌝ }
+{
+    Ran {
+        answer: Reply::Refused(x),
+        n: 0,
+        control_state: c,
+    }
+}
+
+// The record put together again, with the registers and the control state that a call has left.
+pub fn finish(k: Record, w: [u16; 46], o: Ran) -> Called
+    ensures { λ a. ⌜ a ≡ ended k w o ⌝ }
+{
+    let r = k.regs;
+    let b = r.board;
     let e = k.endpoints;
     let f = k.irq;
+    let a = o.answer;
+    let c = o.control_state;
     Called {
-        answer: Reply::Done,
+        answer: a,
         record: Record {
-            regs: r,
+            regs: Regs { board: b, words: w },
             endpoints: e,
             control_state: c,
             irq: f,
@@ -52,42 +85,54 @@ pub fn finish(k: Record, c: ControlState, o: Logged) -> Called
     }
 }
 
-// What a refused call leaves: all as it was.
-pub fn refuse(k: Record, x: Refusal) -> Called
-    ensures { λ a. ⌜ a ≡ refused k x ⌝ }
-{
-    Called {
-        answer: Reply::Refused(x),
-        record: k,
-        stores: 0,
-    }
-}
-
 // The tests that come first in a call that lends a list of so many numbers: 15, 16, 8.
-pub fn admit(numbers: usize, k: Record, beyond: bool) -> Entry
-    ensures { λ a. ⌜ (a ≡ entryBy (ltb numbers 384) (recordSound k) beyond) × (a ≡ Clear → 384 ≤ numbers) ⌝ }
+pub fn admit(numbers: usize, b: Board, w: &[u16; 46], f: Flags, beyond: bool) -> Admission
+    ensures { λ a. ⌜ (a ≡ admissionBy (ltb numbers listNeed) (passes b (now (w .entry)) f) beyond) × (a ≡ Clear → listNeed ≤ numbers) ⌝ }
 {
-    record::admit(numbers < LIST, k, beyond)
+    record::admit(numbers < record::LIST, b, w, f, beyond)
 }
 
 // The same of a call at an endpoint.
-pub fn admit_at(numbers: usize, k: Record, ep: u8) -> Entry
-    ensures { λ a. ⌜ (a ≡ entryBy (ltb numbers 384) (recordSound k) (beyond k ep)) × (a ≡ Clear → 384 ≤ numbers) ⌝ }
+pub fn admit_at(numbers: usize, b: Board, w: &[u16; 46], f: Flags, ep: u8) -> Admission
+    ensures { λ a. ⌜ (a ≡ admissionBy (ltb numbers listNeed) (passes b (now (w .entry)) f) (leb (endpointsIn b) ep)) × (a ≡ Clear → listNeed ≤ numbers) ⌝ }
 {
-    admit(numbers, k, record::endpoints(k) <= ep)
+    admit(numbers, b, w, f, record::endpoints(b) <= ep)
+}
+
+fn run_bus_init(b: Board, w: &mut [u16; 46], list: &mut [u16], c: ControlState, f: Flags) -> Ran
+    ensures { λ o. ⌜ left o (now (w .exit)) (now (list .exit)) ≡ busInitRan b c f (log (now (w .entry)) (now (list .entry)) 0) ⌝ }
+{
+    let t = admit(list.len(), b, w, f, false);
+    match t {
+        Admission::Refused(x) => refuse(x, c),
+        Admission::Clear => {
+            let n = common_impl::bus_init(w, list, 0);
+            done(n, c)
+        }
+    }
 }
 
 pub fn bus_init(k: Record, list: &mut [u16]) -> Called
     ensures { λ a. ⌜ record { call = a; list = now (list .exit) } ≡ busInitCall k (now (list .entry)) ⌝ }
 {
-    let t = admit(list.len(), k, false);
+    let r = k.regs;
+    let b = r.board;
+    let mut w = r.words;
+    let c = k.control_state;
+    let f = k.irq;
+    let o = run_bus_init(b, &mut w, list, c, f);
+    finish(k, w, o)
+}
+
+fn run_enable(b: Board, w: &mut [u16; 46], list: &mut [u16], c: ControlState, f: Flags) -> Ran
+    ensures { λ o. ⌜ left o (now (w .exit)) (now (list .exit)) ≡ enableRan b c f (log (now (w .entry)) (now (list .entry)) 0) ⌝ }
+{
+    let t = admit(list.len(), b, w, f, false);
     match t {
-        Entry::Refused(x) => refuse(k, x),
-        Entry::Clear => {
-            let r = k.regs;
-            let c = k.control_state;
-            let o = common_impl::bus_init(r, list, 0);
-            finish(k, c, o)
+        Admission::Refused(x) => refuse(x, c),
+        Admission::Clear => {
+            let n = stores::write_faddr(w, list, 0, 0);
+            done(n, c)
         }
     }
 }
@@ -95,16 +140,13 @@ pub fn bus_init(k: Record, list: &mut [u16]) -> Called
 pub fn enable(k: Record, list: &mut [u16]) -> Called
     ensures { λ a. ⌜ record { call = a; list = now (list .exit) } ≡ enableCall k (now (list .entry)) ⌝ }
 {
-    let t = admit(list.len(), k, false);
-    match t {
-        Entry::Refused(x) => refuse(k, x),
-        Entry::Clear => {
-            let r = k.regs;
-            let c = k.control_state;
-            let o = stores::write_faddr(r, list, 0, 0);
-            finish(k, c, o)
-        }
-    }
+    let r = k.regs;
+    let b = r.board;
+    let mut w = r.words;
+    let c = k.control_state;
+    let f = k.irq;
+    let o = run_enable(b, &mut w, list, c, f);
+    finish(k, w, o)
 }
 
 pub fn idle(c: ControlState) -> ControlState
@@ -115,34 +157,51 @@ pub fn idle(c: ControlState) -> ControlState
 }
 
 // The source takes any address; document 01 refuses one that the register's seven bits do not hold.
-fn address_refusal(numbers: usize, k: Record, addr: u8) -> Entry
-    ensures { λ a. ⌜ (a ≡ addressEntry (entryBy (ltb numbers 384) (recordSound k) false) (leb addr 127)) × (a ≡ Clear → 384 ≤ numbers) ⌝ }
+fn address_refusal(numbers: usize, b: Board, w: &[u16; 46], f: Flags, addr: u8) -> Admission
+    ensures { λ a. ⌜ (a ≡ addressEntry (admissionBy (ltb numbers listNeed) (passes b (now (w .entry)) f) false) (leb addr 127)) × (a ≡ Clear → listNeed ≤ numbers) ⌝ }
 {
-    let t = admit(numbers, k, false);
+    let t = admit(numbers, b, w, f, false);
     match t {
-        Entry::Refused(x) => Entry::Refused(x),
-        Entry::Clear => {
+        Admission::Refused(x) => Admission::Refused(x),
+        Admission::Clear => {
             if addr <= 127 {
-                return Entry::Clear;
+                return Admission::Clear;
             }
-            Entry::Refused(Refusal::BadAddress)
+            Admission::Refused(Refusal::BadAddress)
         }
     }
 }
 
-pub fn set_device_address(k: Record, list: &mut [u16], addr: u8) -> Called
-    ensures { λ a. ⌜ record { call = a; list = now (list .exit) } ≡ addressCall k addr (now (list .entry)) ⌝ }
+fn run_set_address(
+    b: Board,
+    w: &mut [u16; 46],
+    list: &mut [u16],
+    c: ControlState,
+    f: Flags,
+    addr: u8,
+) -> Ran
+    ensures { λ o. ⌜ left o (now (w .exit)) (now (list .exit)) ≡ addressRan b c f addr (log (now (w .entry)) (now (list .entry)) 0) ⌝ }
 {
-    let t = address_refusal(list.len(), k, addr);
+    let t = address_refusal(list.len(), b, w, f, addr);
     match t {
-        Entry::Refused(x) => refuse(k, x),
-        Entry::Clear => {
-            let r = k.regs;
-            let c = k.control_state;
-            let o = stores::write_faddr(r, list, 0, addr);
-            finish(k, c, o)
+        Admission::Refused(x) => refuse(x, c),
+        Admission::Clear => {
+            let n = stores::write_faddr(w, list, 0, addr);
+            done(n, c)
         }
     }
+}
+
+pub fn set_device_address(k: Record, addr: u8, list: &mut [u16]) -> Called
+    ensures { λ a. ⌜ record { call = a; list = now (list .exit) } ≡ addressCall k addr (now (list .entry)) ⌝ }
+{
+    let r = k.regs;
+    let b = r.board;
+    let mut w = r.words;
+    let c = k.control_state;
+    let f = k.irq;
+    let o = run_set_address(b, &mut w, list, c, f, addr);
+    finish(k, w, o)
 }
 
 // The trait's own: the chip can't do it.

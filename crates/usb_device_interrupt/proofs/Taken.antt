@@ -10,9 +10,11 @@ use borrow.Author.Tests.{eq-eqb, ne-eqb}
 use Rattle.laws.specs.Words.{bit, raised}
 use Rattle.laws.proofs.Words.{bit-raised}
 use Rattle.laws.proofs.Tests.{or-zero, or-one}
-use Rattle.board.specs.declared.Direction.the-variants.{In}
-use Rattle.regs.specs.declared.Regs.{Regs}
-use Rattle.events.specs.Events.{intrusbCleared, intrCleared}
+use Rattle.board.specs.declared.Direction.the-variants.{Out, In}
+use Rattle.regs.specs.Registers.{File, Whole, intrusb, intrOf}
+use Rattle.events.specs.declared.BusEvent.the-variants.{Suspend}
+use Rattle.events.specs.Events.{busBit, intrusbCleared, intrCleared}
+use Rattle.events.proofs.Promises.{usb-rest, word-rest}
 use Rattle.events.proofs.Others.{usb-clears, tx-clears, rx-clears}
 use Rattle.laws.specs.Lists.{numbers}
 use Rattle.record.specs.declared.Flags.{Flags}
@@ -72,18 +74,18 @@ walked s f [] = record { tx = refl; rx = refl; suspend = refl }
 walked s f (e ∷ l) = let w = walked s (endpointTaken s f e) l in record { tx = w .tx; rx = w .rx; suspend = w .suspend }
 
 -- the flags of a board with so many endpoints, once the registers r were read
-pub record Takes (count : ℕ) (r : Regs) (f g : Flags) : Type 0 where
-  pub tx : (j : ℕ) → 1 ≤ j → j < count → bit (g .«ep_tx») j ≡ (bit (f .«ep_tx») j || bit (r .pending .tx) j)
-  pub rx : (j : ℕ) → 1 ≤ j → j < count → bit (g .«ep_rx») j ≡ (bit (f .«ep_rx») j || bit (r .pending .rx) j)
-  pub suspend : g .suspend ≡ (f .suspend || r .pending .usb .suspend)
+pub record Takes (count : ℕ) (r : File) (f g : Flags) : Type 0 where
+  pub tx : (j : ℕ) → 1 ≤ j → j < count → bit (g .«ep_tx») j ≡ (bit (f .«ep_tx») j || bit (intrOf r In) j)
+  pub rx : (j : ℕ) → 1 ≤ j → j < count → bit (g .«ep_rx») j ≡ (bit (f .«ep_rx») j || bit (intrOf r Out) j)
+  pub suspend : g .suspend ≡ (f .suspend || bit (intrusb r) (busBit Suspend))
 
-pub takes : (count : ℕ) (r : Regs) (f : Flags) → count ≤ 6 → Takes count r f (taken count (snapshotOf r) f)
+pub takes : (count : ℕ) (r : File) (f : Flags) → Whole r → count ≤ 6 → Takes count r f (taken count (snapshotOf r) f)
 unfolding taken endpointsTaken busTaken snapshotOf
-takes count r f six =
+takes count r f all six =
     let s = snapshotOf r in
     let w = walked s (busTaken s f) (numbers 1 (count - 1)) in
-    let tx : s .tx ≡ r .pending .tx = usb-clears r .1 in
-    let rx : s .rx ≡ r .pending .rx = tx-clears (intrusbCleared r) .2 ∙ usb-clears r .2 in
+    let tx : s .tx ≡ intrOf r In = usb-clears r all .1 in
+    let rx : s .rx ≡ intrOf r Out = tx-clears (intrusbCleared r) (usb-rest r .whole ∙ all) .2 ∙ usb-clears r all .2 in
     record {
       tx = λ j h low.
           ap (λ (x : ℕ). bit x j) (w .tx) ∙ within (s .tx) (count - 1) (f .«ep_tx») 1 j (omega arith) h (omega arith)
@@ -95,6 +97,7 @@ takes count r f six =
     }
 
 -- "Interrupt registers clear when read."
-pub none-due : (r : Regs) → cleared r .pending .rx ≡ 0
+pub none-due : (r : File) → Whole r → intrOf (cleared r) Out ≡ 0
 unfolding cleared
-none-due r = rx-clears (intrCleared (intrusbCleared r) In) .0
+none-due r all =
+    rx-clears (intrCleared (intrusbCleared r) In) (word-rest (intrusbCleared r) In .whole ∙ usb-rest r .whole ∙ all) .0

@@ -5,8 +5,9 @@ use mathlib.Core.Bool.{Bool, true, false, _||_, cond}
 use mathlib.Core.List.{foldl}
 use Rattle.laws.specs.Words.{bit, raised}
 use Rattle.board.specs.declared.Direction.the-variants.{Out, In}
-use Rattle.regs.specs.declared.Regs.{Regs}
-use Rattle.events.specs.Events.{intrusbCleared, intrCleared, intrOf}
+use Rattle.regs.specs.Registers.{File, intrusb, intrOf}
+use Rattle.events.specs.declared.BusEvent.the-variants.{Suspend, Resume, Reset}
+use Rattle.events.specs.Events.{busBit, intrusbCleared, intrCleared}
 use Rattle.laws.specs.Lists.{numbers}
 use Rattle.record.specs.declared.Flags.{Flags}
 use Rattle.record.specs.declared.Refusal.the-variants.{BadRecord}
@@ -18,19 +19,19 @@ use Rattle.usb_device_interrupt.specs.declared.Interrupted.the-variants.
 use Rattle.usb_device_interrupt.specs.declared.OnInterrupt.{OnInterrupt}
 
 -- `intrusb().read()`, `intrtx().read()`, `intrrx().read()`, in this order
-unfoldable pub snapshotOf : Regs → Snapshot
-snapshotOf r = record { usb = r .pending .usb; tx = intrOf (intrusbCleared r) In; rx = intrOf (intrCleared (intrusbCleared r) In) Out }
+unfoldable pub snapshotOf : File → Snapshot
+snapshotOf r = record { usb = intrusb r; tx = intrOf (intrusbCleared r) In; rx = intrOf (intrCleared (intrusbCleared r) In) Out }
 
 -- "Interrupt registers clear when read."
-unfoldable pub cleared : Regs → Regs
+unfoldable pub cleared : File → File
 cleared r = intrCleared (intrCleared (intrusbCleared r) In) Out
 
 -- `if intrusb.reset() { IRQ_RESET.store(true, ..) }` and so on; the transmit bit of endpoint 0 raises the flag of its own
 unfoldable pub busTaken : Snapshot → Flags → Flags
 busTaken s f = record {
-  reset = f .reset || s .usb .reset;
-  suspend = f .suspend || s .usb .suspend;
-  resume = f .resume || s .usb .resume;
+  reset = f .reset || bit (s .usb) (busBit Reset);
+  suspend = f .suspend || bit (s .usb) (busBit Suspend);
+  resume = f .resume || bit (s .usb) (busBit Resume);
   ep0 = f .ep0 || bit (s .tx) 0;
   «ep_tx» = f .«ep_tx»;
   «ep_rx» = f .«ep_rx»;
@@ -62,11 +63,16 @@ taken count s f = endpointsTaken count s (busTaken s f)
 -- the record with the registers read and the flags taken
 unfoldable pub interrupted : Record → Record
 interrupted k = record {
-  regs = cleared (k .regs);
+  regs = record { board = k .regs .board; words = cleared (k .regs .words) };
   endpoints = k .endpoints;
   «control_state» = k .«control_state»;
-  irq = taken (endpointsOf k) (snapshotOf (k .regs)) (k .irq);
+  irq = taken (endpointsOf k) (snapshotOf (k .regs .words)) (k .irq);
 }
+
+-- what is answered: 16 for a record that does not pass
+abbrev pub answerBy : Bool → Interrupted
+answerBy true = Done
+answerBy false = Refused BadRecord
 
 abbrev pub interruptBy : Bool → Record → OnInterrupt
 interruptBy true k = record { answer = Done; «record» = interrupted k }

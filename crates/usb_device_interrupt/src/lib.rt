@@ -1,24 +1,24 @@
 // `on_interrupt` of the source: it reads the three interrupt registers, which clears them, and takes what it read into the flags.
+use board::Board;
 use board::Direction;
+use events::BusEvent;
 use record::Flags;
 use record::Record;
 use record::Refusal;
-use regs::Intrusb;
 use regs::Regs;
 ghost use mathlib.Core.Path.{_≡_};
+ghost use mathlib.Core.Bool.{cond};
 ghost use Prim.Native.Nat.{_<_, _≤_};
-ghost use Rattle.usb_device_interrupt.specs.Interrupt.{snapshotOf, cleared, busTaken, raisedIf, endpointTaken, taken, interrupted, interruptCall};
+ghost use Rattle.laws.specs.Words.{bit};
+ghost use Rattle.events.specs.Events.{busBit};
+ghost use Rattle.record.specs.Record.{endpointsIn};
+ghost use Rattle.usb_device_interrupt.specs.Interrupt.{snapshotOf, cleared, busTaken, raisedIf, endpointTaken, taken, answerBy, interruptCall};
 
 // What the three reads find: `intrusb`, `intrtx`, `intrrx`.
 pub struct Snapshot {
-    pub usb: Intrusb,
+    pub usb: u16,
     pub tx: u16,
     pub rx: u16,
-}
-
-struct Snapped {
-    regs: Regs,
-    snapshot: Snapshot,
 }
 
 pub enum Interrupted {
@@ -31,23 +31,24 @@ pub struct OnInterrupt {
     pub record: Record,
 }
 
-fn snap(r: Regs) -> Snapped
-    ensures { λ o. ⌜ (o .snapshot ≡ snapshotOf r) × (o .regs ≡ cleared r) ⌝ }
+fn snap(w: &mut [u16; 46]) -> Snapshot
+    ensures { λ s. ⌜ (s ≡ snapshotOf (now (w .entry))) × (now (w .exit) ≡ cleared (now (w .entry))) ⌝ }
 {
-    let a = events::read_intrusb(r);
-    let b = events::read_intr(a.regs, Direction::In);
-    let c = events::read_intr(b.regs, Direction::Out);
-    let u = a.usb;
-    let s = Snapshot {
+    let u = events::read_intrusb(w);
+    let t = events::read_intr(w, Direction::In);
+    let x = events::read_intr(w, Direction::Out);
+    Snapshot {
         usb: u,
-        tx: b.word,
-        rx: c.word,
-    };
-    let q = c.regs;
-    Snapped {
-        regs: q,
-        snapshot: s,
+        tx: t,
+        rx: x,
     }
+}
+
+// Whether a bus event was found in the bus register.
+fn has_event(usb: u16, o: BusEvent) -> bool
+    ensures { λ r. ⌜ r ≡ bit usb (busBit o) ⌝ }
+{
+    laws::has_bit(usb, events::bus_bit(o))
 }
 
 // The flags of the bus, and endpoint 0's.
@@ -55,9 +56,9 @@ fn take_bus(s: Snapshot, f: Flags) -> Flags
     ensures { λ o. ⌜ o ≡ busTaken s f ⌝ }
 {
     let mut o = f;
-    o.reset = f.reset | s.usb.reset;
-    o.suspend = f.suspend | s.usb.suspend;
-    o.resume = f.resume | s.usb.resume;
+    o.reset = f.reset | has_event(s.usb, BusEvent::Reset);
+    o.suspend = f.suspend | has_event(s.usb, BusEvent::Suspend);
+    o.resume = f.resume | has_event(s.usb, BusEvent::Resume);
     o.ep0 = f.ep0 | laws::has_bit(s.tx, 0);
     o
 }
@@ -94,30 +95,43 @@ pub fn take(count: u8, s: Snapshot, f: Flags) -> Flags
     o
 }
 
-fn interrupt(k: Record) -> Record
-    ensures { λ o. ⌜ o ≡ interrupted k ⌝ }
+// A record that passed reply 16's test is served, and any other left alone.
+fn interrupt_if(ok: bool, b: Board, w: &mut [u16; 46], f: Flags) -> Flags
+    ensures { λ o. ⌜ (o ≡ cond ok (taken (endpointsIn b) (snapshotOf (now (w .entry))) f) f) × (now (w .exit) ≡ cond ok (cleared (now (w .entry))) (now (w .entry))) ⌝ }
 {
-    let a = snap(k.regs);
-    let f = take(record::endpoints(k), a.snapshot, k.irq);
-    let mut o = k;
-    let r = a.regs;
-    o.regs = r;
-    o.irq = f;
-    o
+    if ok {
+        let s = snap(w);
+        return take(record::endpoints(b), s, f);
+    }
+    f
+}
+
+fn answer(ok: bool) -> Interrupted
+    ensures { λ a. ⌜ a ≡ answerBy ok ⌝ }
+{
+    if ok {
+        return Interrupted::Done;
+    }
+    Interrupted::Refused(Refusal::BadRecord)
 }
 
 pub fn on_interrupt(k: Record) -> OnInterrupt
     ensures { λ o. ⌜ o ≡ interruptCall k ⌝ }
 {
-    if record::sound(k) {
-        let o = interrupt(k);
-        return OnInterrupt {
-            answer: Interrupted::Done,
-            record: o,
-        };
-    }
+    let r = k.regs;
+    let e = k.endpoints;
+    let c = k.control_state;
+    let b = r.board;
+    let mut w = r.words;
+    let ok = record::sound(b, &w, k.irq);
+    let f = interrupt_if(ok, b, &mut w, k.irq);
     OnInterrupt {
-        answer: Interrupted::Refused(Refusal::BadRecord),
-        record: k,
+        answer: answer(ok),
+        record: Record {
+            regs: Regs { board: b, words: w },
+            endpoints: e,
+            control_state: c,
+            irq: f,
+        },
     }
 }

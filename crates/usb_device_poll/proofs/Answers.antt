@@ -11,8 +11,8 @@ use borrow.Author.Tests.{lt-ltb, le-ltb, ltb-true, ltb-false}
 use Rattle.stores.specs.Stores.{log}
 use Rattle.overrun.specs.Common.{checkOverrun}
 use Rattle.record.specs.declared.Record.{Record}
-use Rattle.record.specs.Record.{recordSound, entryBy}
-use Rattle.usb_device_poll.specs.Poll.{PollOutcome, ended, walkedOn, acceptedOn, roundOut, pollBy, pollLogged, pollServed, pollWhen, pollCall, pollNumber}
+use Rattle.record.specs.Record.{recordSound, endpointsIn, admissionBy}
+use Rattle.usb_device_poll.specs.Poll.{PollOutcome, outcomeOf, ended, walkedOn, acceptedOn, roundOut, pollBy, pollLogged, pollServed, pollWhen, pollAdmitted, pollCall, pollNumber}
 
 abbrev pub replyTo : Record → List ℕ → ℕ
 replyTo k l = pollNumber (pollCall k l .result .answer)
@@ -23,10 +23,17 @@ pub record Unchanged (k : Record) (l : List ℕ) : Type 0 where
   pub none : pollCall k l .result .stores ≡ 0
   pub list : pollCall k l .list ≡ l
 
+-- the outcome by what its first tests say, and the outcome of a poll that is served
+abbrev whenOf : Bool → Bool → Record → List ℕ → PollOutcome
+whenOf short passes k l = outcomeOf k (pollWhen (admissionBy short passes false) (k .regs .board) (log (k .regs .words) l 0) (k .«control_state») (k .irq))
+
+abbrev pub servedOf : Record → List ℕ → PollOutcome
+servedOf k l = outcomeOf k (pollServed (k .regs .board) (log (k .regs .words) l 0) (k .«control_state») (k .irq))
+
 module _ (k : Record) (l : List ℕ) where
-  by-tests : {short passes : Bool} → ltb (length l) 384 ≡ short → recordSound k ≡ passes → pollCall k l ≡ pollWhen (entryBy short passes false) k l
-  unfolding pollCall
-  by-tests p q = λ i. pollWhen (entryBy (p i) (q i) false) k l
+  by-tests : {short passes : Bool} → ltb (length l) 384 ≡ short → recordSound k ≡ passes → pollCall k l ≡ whenOf short passes k l
+  unfolding pollCall pollAdmitted recordSound
+  by-tests p q = λ i. whenOf (p i) (q i) k l
 
   -- 15: "list under 384 numbers"
   pub too-little : length l < 384 → (replyTo k l ≡ 15) × Unchanged k l
@@ -40,19 +47,19 @@ module _ (k : Record) (l : List ℕ) where
       let e = by-tests (le-ltb _ _ h) p in
       (rw e, record { kept = rw e; none = rw e; list = rw e })
 
-  pub served : 384 ≤ length l → recordSound k ≡ true → pollCall k l ≡ pollServed k l
+  pub served : 384 ≤ length l → recordSound k ≡ true → pollCall k l ≡ servedOf k l
   served h p = by-tests (le-ltb _ _ h) p
 
   -- and only then
   reply-by : (short passes : Bool) → ltb (length l) 384 ≡ short → recordSound k ≡ passes
-      → replyTo k l ≡ pollNumber (pollWhen (entryBy short passes false) k l .result .answer)
+      → replyTo k l ≡ pollNumber (whenOf short passes k l .result .answer)
   reply-by short passes p q = ap (λ (o : PollOutcome). pollNumber (o .result .answer)) (by-tests p q)
 
-  reply-served : pollNumber (pollServed k l .result .answer) ≡ 0
+  reply-served : pollNumber (servedOf k l .result .answer) ≡ 0
   unfolding pollServed pollLogged roundOut acceptedOn walkedOn ended
   reply-served = go (k .irq .reset) (k .irq .resume) (k .irq .suspend)
     where
-      go : (a b c : Bool) → pollNumber (pollBy a b c k (checkOverrun (log (k .regs) l 0)) .result .answer) ≡ 0
+      go : (a b c : Bool) → pollNumber (pollBy a b c (checkOverrun (endpointsIn (k .regs .board)) (log (k .regs .words) l 0)) (k .«control_state») (k .irq) .answer) ≡ 0
       go true b c = refl
       go false true c = refl
       go false false true = refl

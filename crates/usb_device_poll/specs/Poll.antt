@@ -5,20 +5,22 @@ use mathlib.Core.Bool.{Bool, true, false}
 use mathlib.Core.List.{List, [], _∷_}
 use lib.Dec.{ltb}
 use lib.ListN.{length}
-use Rattle.regs.specs.declared.Regs.{Regs}
+use Rattle.board.specs.declared.Board.{Board}
+use Rattle.regs.specs.Registers.{File}
 use Rattle.stores.specs.Stores.{Log, log}
 use Rattle.overrun.specs.Common.{checkOverrun}
 use Rattle.control_state.specs.declared.ControlState.{ControlState}
 use Rattle.record.specs.declared.Flags.{Flags}
-use Rattle.record.specs.declared.Entry.{Entry}
-use Rattle.record.specs.declared.Entry.the-variants as entry
+use Rattle.record.specs.declared.Admission.{Admission}
+use Rattle.record.specs.declared.Admission.the-variants as admission
 use Rattle.record.specs.declared.Record.{Record}
-use Rattle.record.specs.Record.{recordSound, entryBy, refusalNumber}
+use Rattle.record.specs.Record.{endpointsIn, passes, admissionBy, refusalNumber}
 use Rattle.usb_device_poll.specs.declared.PollResult.{PollResult}
 use Rattle.usb_device_poll.specs.declared.PollResult.the-variants.{None, Data, Reset, Resume, Suspend}
 use Rattle.usb_device_poll.specs.declared.PollAnswer.{PollAnswer}
 use Rattle.usb_device_poll.specs.declared.PollAnswer.the-variants.{Done, Refused}
 use Rattle.usb_device_poll.specs.declared.Polled.{Polled}
+use Rattle.usb_device_poll.specs.declared.Answered.{Answered}
 use Rattle.poll_zero.specs.Round.{Round, round, withTx, withRx, endpointZero, acceptStep}
 use Rattle.poll_walk.specs.Round.{Walk, walked}
 use Rattle.usb_device_poll.specs.Round.{withReset, withResume, told}
@@ -30,51 +32,74 @@ pub record PollOutcome : Type 0 where
 abbrev pub outcome : Polled → List ℕ → PollOutcome
 outcome p l = record { result = p; list = l }
 
+-- the answer, and what a poll changes: the log, the control state and the flags
+pub record After : Type 0 where
+  pub answer : PollAnswer
+  pub log : Log
+  pub control : ControlState
+  pub irq : Flags
+
+abbrev pub after : PollAnswer → Log → ControlState → Flags → After
+after a g c f = record { answer = a; log = g; control = c; irq = f }
+
+abbrev pub answered : PollResult → Log → ControlState → Flags → After
+answered a g c f = after (Done a) g c f
+
+-- what a function of the code gives back, with its registers and its list
+abbrev pub polled : PollResult → ℕ → ControlState → Flags → Answered
+polled a n c f = record { answer = Done a; n = n; «control_state» = c; irq = f }
+
+abbrev pub afterOf : Answered → File → List ℕ → After
+afterOf o w l = after (o .answer) (log w l (o .n)) (o .«control_state») (o .irq)
+
 -- the record k with what a poll changes of it, and its answer
-abbrev pub polled : PollResult → Record → Regs → ℕ → ControlState → Flags → Polled
-polled a k r n c f = record {
-  answer = Done a;
-  «record» = record { regs = r; endpoints = k .endpoints; «control_state» = c; irq = f };
-  stores = n;
+abbrev pub outcomeOf : Record → After → PollOutcome
+outcomeOf k t = record {
+  result = record {
+    answer = t .answer;
+    «record» = record { regs = record { board = k .regs .board; words = t .log .regs }; endpoints = k .endpoints; «control_state» = t .control; irq = t .irq };
+    stores = t .log .count;
+  };
+  list = t .log .list;
 }
 
-abbrev pub answered : PollResult → Record → Log → ControlState → Flags → PollOutcome
-answered a k g c f = record { result = polled a k (g .regs) (g .count) c f; list = g .list }
-
 -- the end of a round: the transmit flags are put to 0, the receive flags are those that the walk left
-unfoldable pub ended : Record → Round → Walk → PollOutcome
-ended k o w = answered (told (w .out) (o .irq .«ep_tx») (o .setup)) k (w .log) (o .control) (withRx (withTx (o .irq) 0) (w .out))
+unfoldable pub ended : Round → Walk → After
+ended o w = answered (told (w .out) (o .irq .«ep_tx») (o .setup)) (w .log) (o .control) (withRx (withTx (o .irq) 0) (w .out))
 
-unfoldable pub walkedOn : Record → Round → PollOutcome
-walkedOn k o = ended k o (walked (o .irq .«ep_rx») (o .log))
+unfoldable pub walkedOn : Round → After
+walkedOn o = ended o (walked (o .irq .«ep_rx») (o .log))
 
-unfoldable pub acceptedOn : Record → Round → PollOutcome
-acceptedOn k o = walkedOn k (round (o .log) (acceptStep (o .control) (o .irq) .«control_state») (acceptStep (o .control) (o .irq) .irq) (o .setup))
+unfoldable pub acceptedOn : Round → After
+acceptedOn o = walkedOn (round (o .log) (acceptStep (o .control) (o .irq) .«control_state») (acceptStep (o .control) (o .irq) .irq) (o .setup))
 
 -- endpoint 0, the Accepted step, the walk
-unfoldable pub roundOut : Record → Log → PollOutcome
-roundOut k g = acceptedOn k (endpointZero g (k .«control_state») (k .irq))
+unfoldable pub roundOut : Log → ControlState → Flags → After
+roundOut g c f = acceptedOn (endpointZero g c f)
 
 -- "overrun check, then Reset, Resume, Suspend. The Suspend step puts down the reset flag and never its own."
-abbrev pub pollBy : Bool → Bool → Bool → Record → Log → PollOutcome
-pollBy true resume suspend k g = answered Reset k g (k .«control_state») (withReset (k .irq) false)
-pollBy false true suspend k g = answered Resume k g (k .«control_state») (withResume (k .irq) false)
-pollBy false false true k g = answered Suspend k g (k .«control_state») (withReset (k .irq) false)
-pollBy false false false k g = roundOut k g
+abbrev pub pollBy : Bool → Bool → Bool → Log → ControlState → Flags → After
+pollBy true resume suspend g c f = answered Reset g c (withReset f false)
+pollBy false true suspend g c f = answered Resume g c (withResume f false)
+pollBy false false true g c f = answered Suspend g c (withReset f false)
+pollBy false false false g c f = roundOut g c f
 
-unfoldable pub pollLogged : Record → Log → PollOutcome
-pollLogged k g = pollBy (k .irq .reset) (k .irq .resume) (k .irq .suspend) k g
+unfoldable pub pollLogged : Log → ControlState → Flags → After
+pollLogged g c f = pollBy (f .reset) (f .resume) (f .suspend) g c f
 
-unfoldable pub pollServed : Record → List ℕ → PollOutcome
-pollServed k l = pollLogged k (checkOverrun (log (k .regs) l 0))
+unfoldable pub pollServed : Board → Log → ControlState → Flags → After
+pollServed b g c f = pollLogged (checkOverrun (endpointsIn b) g) c f
 
 -- the whole outcome: refused with 15 or 16, or served
-abbrev pub pollWhen : Entry → Record → List ℕ → PollOutcome
-pollWhen (entry.Refused x) k l = record { result = record { answer = Refused x; «record» = k; stores = 0 }; list = l }
-pollWhen entry.Clear k l = pollServed k l
+abbrev pub pollWhen : Admission → Board → Log → ControlState → Flags → After
+pollWhen (admission.Refused x) b g c f = after (Refused x) g c f
+pollWhen admission.Clear b g c f = pollServed b g c f
+
+unfoldable pub pollAdmitted : Board → File → List ℕ → ControlState → Flags → After
+pollAdmitted b w l c f = pollWhen (admissionBy (ltb (length l) 384) (passes b w f) false) b (log w l 0) c f
 
 unfoldable pub pollCall : Record → List ℕ → PollOutcome
-pollCall k l = pollWhen (entryBy (ltb (length l) 384) (recordSound k) false) k l
+pollCall k l = outcomeOf k (pollAdmitted (k .regs .board) (k .regs .words) l (k .«control_state») (k .irq))
 
 -- document 01's reply, and the values that the report prints: "for poll 0 None, 1 Data with out, in, setup masks, 2 Reset, 3 Resume,
 -- 4 Suspend"

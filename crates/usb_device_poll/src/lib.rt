@@ -1,20 +1,20 @@
 // `poll` of the source: the overrun check, Reset, Resume, Suspend, and then a round: endpoint 0, and the walk of the receive flags.
+use board::Board;
 use control_state::ControlState;
 use poll_zero::Progress;
-use record::Entry;
+use record::Admission;
 use record::Flags;
 use record::Record;
 use record::Refusal;
 use regs::Regs;
 ghost use mathlib.Core.Path.{_≡_};
-ghost use mathlib.Core.Bool.{true, false, cond};
+ghost use mathlib.Core.Bool.{false, cond};
 ghost use Prim.Native.Nat.{_+_, _*_, _≤_, _<_};
 ghost use lib.ListN.{length};
 ghost use Rattle.stores.specs.Stores.{log};
-ghost use Rattle.record.specs.Record.{recordSound};
 ghost use Rattle.usb_device_poll.specs.Round.{withReset, told};
 ghost use Rattle.poll_zero.specs.Round.{roundOf};
-ghost use Rattle.usb_device_poll.specs.Poll.{outcome, polled, walkedOn, acceptedOn, roundOut, pollLogged, pollServed, pollCall};
+ghost use Rattle.usb_device_poll.specs.Poll.{outcome, afterOf, polled, walkedOn, acceptedOn, roundOut, pollLogged, pollServed, pollAdmitted, pollCall};
 
 // The masks of a Data answer, a bit for each endpoint.
 pub struct Masks {
@@ -62,59 +62,60 @@ fn tell(out: u16, sent: u16, setup: bool) -> PollResult
     PollResult::None
 }
 
-fn answer(a: PollResult, k: Record, r: Regs, n: usize, c: ControlState, f: Flags) -> Polled
-    ensures { λ p. ⌜ p ≡ polled a k r n c f ⌝ }
+// What a poll leaves besides the registers.
+struct Answered {
+    answer: PollAnswer,
+    n: usize,
+    control_state: ControlState,
+    irq: Flags,
+}
+
+fn answer(a: PollResult, n: usize, c: ControlState, f: Flags) -> Answered
+    ensures { λ o. ⌜ o ≡ polled a n c f ⌝ }
 {
-    let e = k.endpoints;
-    Polled {
+    Answered {
         answer: PollAnswer::Done(a),
-        record: Record {
-            regs: r,
-            endpoints: e,
-            control_state: c,
-            irq: f,
-        },
-        stores: n,
+        n: n,
+        control_state: c,
+        irq: f,
     }
 }
 
-fn walk_on(k: Record, o: Progress, list: &mut [u16]) -> Polled
+fn walk_on(w: &mut [u16; 46], list: &mut [u16], o: Progress) -> Answered
     requires { ⌜ (o .irq .«ep_rx» < 64) × (o .n * 3 + 18 ≤ length (now list)) ⌝ }
-    ensures { λ p. ⌜ outcome p (now (list .exit)) ≡ walkedOn k (roundOf o (now (list .entry))) ⌝ }
+    ensures { λ p. ⌜ afterOf p (now (w .exit)) (now (list .exit)) ≡ walkedOn (roundOf o (now (w .entry)) (now (list .entry))) ⌝ }
 {
     let f = o.irq;
-    let w = poll_walk::walk(f.ep_rx, o.regs, list, o.n);
-    let a = tell(w.out, f.ep_tx, o.setup);
+    let x = poll_walk::walk(f.ep_rx, w, list, o.n);
+    let a = tell(x.out, f.ep_tx, o.setup);
     let mut g = f;
     g.ep_tx = 0;
-    g.ep_rx = w.out;
-    answer(a, k, w.regs, w.n, o.control_state, g)
+    g.ep_rx = x.out;
+    answer(a, x.n, o.control_state, g)
 }
 
-fn accept_on(k: Record, o: Progress, list: &mut [u16]) -> Polled
+fn accept_on(w: &mut [u16; 46], list: &mut [u16], o: Progress) -> Answered
     requires { ⌜ (o .irq .«ep_rx» < 64) × (o .n * 3 + 18 ≤ length (now list)) ⌝ }
-    ensures { λ p. ⌜ outcome p (now (list .exit)) ≡ acceptedOn k (roundOf o (now (list .entry))) ⌝ }
+    ensures { λ p. ⌜ afterOf p (now (w .exit)) (now (list .exit)) ≡ acceptedOn (roundOf o (now (w .entry)) (now (list .entry))) ⌝ }
 {
     let a = poll_zero::accept(o.control_state, o.irq);
-    let r = o.regs;
     let c = a.control_state;
     let f = a.irq;
     let p = Progress {
-        regs: r,
         n: o.n,
         control_state: c,
         irq: f,
         setup: o.setup,
     };
-    walk_on(k, p, list)
+    walk_on(w, list, p)
 }
 
-fn round(k: Record, r: Regs, list: &mut [u16], n: usize) -> Polled
-    requires { ⌜ (k .irq .«ep_rx» < 64) × (n * 3 + 24 ≤ length (now list)) ⌝ }
-    ensures { λ p. ⌜ outcome p (now (list .exit)) ≡ roundOut k (log r (now (list .entry)) n) ⌝ }
+fn round(w: &mut [u16; 46], list: &mut [u16], n: usize, c: ControlState, f: Flags) -> Answered
+    requires { ⌜ (f .«ep_rx» < 64) × (n * 3 + 24 ≤ length (now list)) ⌝ }
+    ensures { λ p. ⌜ afterOf p (now (w .exit)) (now (list .exit)) ≡ roundOut (log (now (w .entry)) (now (list .entry)) n) c f ⌝ }
 {
-    let o = poll_zero::endpoint_zero(r, list, n, k.control_state, k.irq);
-    accept_on(k, o, list)
+    let o = poll_zero::endpoint_zero(w, list, n, c, f);
+    accept_on(w, list, o)
 }
 
 fn reset_down(f: Flags) -> Flags
@@ -126,45 +127,66 @@ fn reset_down(f: Flags) -> Flags
 }
 
 // Reset, Resume, Suspend, and then a round. The Suspend step puts down the reset flag and not its own, as the source does.
-fn by_flags(k: Record, r: Regs, list: &mut [u16], n: usize) -> Polled
-    requires { ⌜ (k .irq .«ep_rx» < 64) × (n * 3 + 24 ≤ length (now list)) ⌝ }
-    ensures { λ p. ⌜ outcome p (now (list .exit)) ≡ pollLogged k (log r (now (list .entry)) n) ⌝ }
+fn by_flags(w: &mut [u16; 46], list: &mut [u16], n: usize, c: ControlState, f: Flags) -> Answered
+    requires { ⌜ (f .«ep_rx» < 64) × (n * 3 + 24 ≤ length (now list)) ⌝ }
+    ensures { λ p. ⌜ afterOf p (now (w .exit)) (now (list .exit)) ≡ pollLogged (log (now (w .entry)) (now (list .entry)) n) c f ⌝ }
 {
-    let f = k.irq;
-    let c = k.control_state;
-    let down = reset_down(f);
     if f.reset {
-        return answer(PollResult::Reset, k, r, n, c, down);
+        return answer(PollResult::Reset, n, c, reset_down(f));
     }
     if f.resume {
         let mut g = f;
         g.resume = false;
-        return answer(PollResult::Resume, k, r, n, c, g);
+        return answer(PollResult::Resume, n, c, g);
     }
     if f.suspend {
-        return answer(PollResult::Suspend, k, r, n, c, down);
+        return answer(PollResult::Suspend, n, c, reset_down(f));
     }
-    round(k, r, list, n)
+    round(w, list, n, c, f)
 }
 
-fn serve(k: Record, list: &mut [u16]) -> Polled
-    requires { ⌜ (recordSound k ≡ true) × (384 ≤ length (now list)) ⌝ }
-    ensures { λ p. ⌜ outcome p (now (list .exit)) ≡ pollServed k (now (list .entry)) ⌝ }
+fn serve(b: Board, w: &mut [u16; 46], list: &mut [u16], c: ControlState, f: Flags) -> Answered
+    requires { ⌜ (f .«ep_rx» < 64) × (384 ≤ length (now list)) ⌝ }
+    ensures { λ p. ⌜ afterOf p (now (w .exit)) (now (list .exit)) ≡ pollServed b (log (now (w .entry)) (now (list .entry)) 0) c f ⌝ }
 {
-    let a = overrun::check_overrun(k.regs, list, 0);
-    by_flags(k, a.regs, list, a.n)
+    let n = overrun::check_overrun(w, list, 0, record::endpoints(b));
+    by_flags(w, list, n, c, f)
+}
+
+fn admitted(b: Board, w: &mut [u16; 46], list: &mut [u16], c: ControlState, f: Flags) -> Answered
+    ensures { λ p. ⌜ afterOf p (now (w .exit)) (now (list .exit)) ≡ pollAdmitted b (now (w .entry)) (now (list .entry)) c f ⌝ }
+{
+    let e = record::admit(list.len() < record::LIST, b, w, f, false);
+    match e {
+        Admission::Refused(x) => Answered {
+            answer: PollAnswer::Refused(x),
+            n: 0,
+            control_state: c,
+            irq: f,
+        },
+        Admission::Clear => serve(b, w, list, c, f),
+    }
 }
 
 pub fn poll(k: Record, list: &mut [u16]) -> Polled
     ensures { λ p. ⌜ outcome p (now (list .exit)) ≡ pollCall k (now (list .entry)) ⌝ }
 {
-    let e = record::admit(list.len() < 384, k, false);
-    match e {
-        Entry::Refused(x) => Polled {
-            answer: PollAnswer::Refused(x),
-            record: k,
-            stores: 0,
+    let r = k.regs;
+    let e = k.endpoints;
+    let b = r.board;
+    let mut w = r.words;
+    let o = admitted(b, &mut w, list, k.control_state, k.irq);
+    let a = o.answer;
+    let c = o.control_state;
+    let f = o.irq;
+    Polled {
+        answer: a,
+        record: Record {
+            regs: Regs { board: b, words: w },
+            endpoints: e,
+            control_state: c,
+            irq: f,
         },
-        Entry::Clear => serve(k, list),
+        stores: o.n,
     }
 }

@@ -2,85 +2,99 @@
 use Prim.Native.Nat.{ℕ, min, _≤_}
 use mathlib.Core.Path.{_≡_, sym, ap, _∙_}
 use mathlib.Core.Bool.{true}
-use mathlib.Core.List.{List}
+use mathlib.Core.List.{List, []}
 use borrow.Author.Tests.{eq-eqb, ne-eqb}
 use lib.ListN.{length, take, drop}
 use Rattle.laws.specs.Lists.{pasted}
+use Rattle.board.specs.declared.Board.{Board}
 use Rattle.board.specs.declared.Span.{Span}
 use Rattle.board.specs.declared.Direction.the-variants.{Out}
 use Rattle.csr.specs.declared.RxcsrlSet.the-variants as rxcsrl
-use Rattle.regs.specs.Registers.{withIndex}
-use Rattle.stores.specs.declared.Logged.{Logged}
-use Rattle.stores.specs.Stores.{Log, log, logOf, writeIndex, modifyRxcsrl}
-use Rattle.peek.specs.Peek.{rxCount}
-use Rattle.peek.proofs.Readings as readings
+use Rattle.csr.specs.declared.Side.{Side}
+use Rattle.regs.specs.Registers.{File}
+use Rattle.regs.proofs.Readings.{reselected}
+use Rattle.stores.specs.Stores.{Log, log, noted, writeIndex, modifyRxcsrl}
+use Rattle.control_state.specs.Control.{idle}
+use Rattle.control_state.specs.declared.ControlState.{ControlState}
+use Rattle.record.specs.declared.Flags.{Flags}
 use Rattle.record.specs.declared.Record.{Record}
 use Rattle.record.specs.declared.Refusal.{Refusal}
 use Rattle.record.specs.declared.Refusal.the-variants.{WouldBlock}
-use Rattle.record.specs.Record.{areaOf, recordSound, withRegs}
+use Rattle.record.specs.Record.{areaIn, areaOf, passes, recordSound}
 use Rattle.record.proofs.Passing.{record-is-sound, waiting-fits}
-use Rattle.read_zero.specs.declared.Got.the-variants.{Refused}
-use Rattle.read_zero.specs.declared.Fetched.{Fetched}
-use Rattle.read_tests.specs.declared.Verdict.{Verdict}
-use Rattle.read_tests.specs.declared.Verdict.the-variants as verdict
-use Rattle.usb_device_read.specs.Read.{ReadOutcome, leaving, copied, readOther, got, taken, readBy, readCall}
-use Rattle.read_zero.specs.Read.{ran, finished, blocked, readZero}
-use Rattle.read_tests.specs.Read.{waiting, tests}
-use Rattle.read_zero.proofs.Laws.{done-by}
+use Rattle.peek.specs.declared.Verdict.{Verdict}
+use Rattle.peek.specs.declared.Verdict.the-variants as verdict
+use Rattle.peek.specs.Peek.{rxCount, After, after, blocked}
+use Rattle.read_zero.specs.declared.Got.the-variants.{Done, Refused}
+use Rattle.read_zero.specs.Read.{readZero}
+use Rattle.read_tests.specs.Read.{testsIn}
+use Rattle.usb_device_read.specs.Read.{Taken, copied, readOther, got, taken, refused, readBy, readIn}
 
--- reply 6
-pub blocked-at : (k : Record) (ep : ℕ) (l : List ℕ) {a : Logged} {m : List ℕ} → logOf a m ≡ writeIndex ep (log (k .regs) l 0)
-    → ran (record { answer = Refused WouldBlock; «record» = withRegs k (a .regs); stores = a .n }) m ≡ blocked k ep l
-unfolding blocked
-blocked-at k ep l p = ap (λ (g : Log). ran (record { answer = Refused WouldBlock; «record» = withRegs k (g .regs); stores = g .count }) (g .list)) p
+-- a record with these parts
+abbrev pub whole : Board → File → ControlState → Flags → Record
+whole b w c f = record { regs = record { board = b; words = w }; endpoints = []; «control_state» = c; irq = f }
 
 -- the packet that waits fits its area, because the record passes reply 16's test
-module _ (k : Record) (ep : ℕ) {n : ℕ} {s : Span} (count : n ≡ rxCount ep (withIndex (k .regs) ep)) (is : s ≡ areaOf k ep Out) where
-  pub packet-fits : recordSound k ≡ true → n ≤ s .size
-  packet-fits p = rw (count, is, readings.waiting (k .regs) ep) (waiting-fits k (record-is-sound k p) ep Out)
+pub packet-fits : (b : Board) (w : File) (f : Flags) (ep : ℕ) → passes b w f ≡ true → rxCount ep w ≤ areaIn b ep Out .size
+unfolding recordSound rxCount areaOf
+packet-fits b w f ep p = waiting-fits (whole b w idle f) (record-is-sound (whole b w idle f) p) ep Out
 
-  pub copied-by : (f b : List ℕ) {x : List ℕ} → x ≡ pasted b 0 (take (min n (length b)) (drop (s .start) f)) → x ≡ copied k ep f b
-  unfolding copied waiting
-  copied-by f b p =
-      p ∙ ap (λ (m : ℕ). pasted b 0 (take (min m (length b)) (drop (s .start) f))) count
-      ∙ ap (λ (t : Span). pasted b 0 (take (min (rxCount ep (withIndex (k .regs) ep)) (length b)) (drop (t .start) f))) is
+module _ (b : Board) (ep : ℕ) {s : Span} (is : s ≡ areaIn b ep Out) where
+  pub area-fits : {n m : ℕ} → n ≡ m → m ≤ areaIn b ep Out .size → n ≤ s .size
+  area-fits count p = rw (count, is) p
 
-module _ (n : ℕ) (k : Record) (g : Log) where
-  pub other-by : {o : Fetched} {b : Logged} {l : List ℕ} → logOf b l ≡ modifyRxcsrl rxcsrl.NoRxPktRdy g
-      → o ≡ finished n k (b .regs) (b .n) → ran o l ≡ readOther n k g
-  unfolding readOther
-  other-by p h = done-by n k p h
+  pub copied-by : (n : ℕ) (x y : List ℕ) {z : List ℕ} → z ≡ pasted x 0 (take (min n (length x)) (drop (s .start) y)) → z ≡ copied b ep n x y
+  unfolding copied
+  copied-by n x y p = p ∙ ap (λ (t : Span). pasted x 0 (take (min n (length x)) (drop (t .start) y))) is
+
+pub other-by : (c : ControlState) (f : Flags) (g : Log) {h : Log} → h ≡ modifyRxcsrl rxcsrl.NoRxPktRdy g → after c f h ≡ readOther c f g
+unfolding readOther
+other-by c f g p = ap (after c f) p
 
 -- the two kinds of endpoint
-module _ (k : Record) (ep : ℕ) (f l b : List ℕ) {n : ℕ} {a : Log} {r : Fetched} {m x : List ℕ} (is : a ≡ writeIndex ep (log (k .regs) l 0))
-    (count : n ≡ waiting k ep) (bytes : x ≡ copied k ep f b) where
-  at-once : ran r m ≡ got k ep x n a → record { result = r; list = m; buf = x } ≡ taken k ep f l b
+module _ (ep : ℕ) (x : List ℕ) (n size : ℕ) (c : ControlState) (f : Flags) (g : Log) {o : After} where
+  pub zero-got : ep ≡ 0 → o ≡ readZero x n size c f g → o ≡ got ep x n size c f g
+  unfolding got
+  zero-got z p = rw (eq-eqb ep 0 z) p
+
+  pub other-got : (ep ≡ 0 → ⊥) → o ≡ readOther c f g → o ≡ got ep x n size c f g
+  unfolding got
+  other-got z p = rw (ne-eqb ep 0 z) p
+
+-- the selection changes no count, so that it is the same before and after
+pub same-count : (ep : ℕ) (g : Log) {h : Log} → h ≡ writeIndex ep g → rxCount ep (h .regs) ≡ rxCount ep (g .regs)
+unfolding writeIndex noted rxCount
+same-count ep g p = ap (λ (h : Log). rxCount ep (h .regs)) p ∙ ap (λ (s : Side). s .len) (reselected (g .regs) ep ep Out)
+
+pub packet-there : (b : Board) (f : Flags) (ep : ℕ) (g : Log) {h : Log} → h ≡ writeIndex ep g → passes b (g .regs) f ≡ true → rxCount ep (h .regs) ≤ areaIn b ep Out .size
+packet-there b f ep g p q = rw (same-count ep g p) (packet-fits b (g .regs) f ep q)
+
+-- a packet that is read
+module _ (b : Board) (c : ControlState) (f : Flags) (size ep : ℕ) (x y : List ℕ) (g : Log) {h : Log} (is : h ≡ writeIndex ep g) where
+  abbrev whose : ℕ → List ℕ → After → Taken
+  whose n z s = record { answer = Done n; buf = z; after = s }
+
+  pub taken-by : {n : ℕ} {z : List ℕ} {s : After} → n ≡ rxCount ep (h .regs) → z ≡ copied b ep n x y → s ≡ got ep z n size c f h
+      → record { answer = Done n; buf = z; after = s } ≡ taken b c f size ep x y g
   unfolding taken
-  at-once p =
-      ap (leaving x)
-      (p ∙ ap (λ (y : List ℕ). got k ep y n a) bytes ∙ ap (λ (y : ℕ). got k ep (copied k ep f b) y a) count ∙ ap (got k ep (copied k ep f b) (waiting k ep)) is)
-      ∙ ap (λ (y : List ℕ). leaving y (got k ep (copied k ep f b) (waiting k ep) (writeIndex ep (log (k .regs) l 0)))) bytes
-
-  pub zero-taken : ep ≡ 0 → ran r m ≡ readZero x n k a → record { result = r; list = m; buf = x } ≡ taken k ep f l b
-  unfolding got
-  zero-taken z p = at-once (rw (eq-eqb ep 0 z) p)
-
-  pub other-taken : (ep ≡ 0 → ⊥) → ran r m ≡ readOther n k a → record { result = r; list = m; buf = x } ≡ taken k ep f l b
-  unfolding got
-  other-taken z p = at-once (rw (ne-eqb ep 0 z) p)
+  taken-by {n = n} {z = z} count bytes p =
+      ap (whose n z) (p ∙ ap (got ep z n size c f) is)
+      ∙ ap (λ (u : List ℕ). whose n u (got ep u n size c f (writeIndex ep g))) bytes
+      ∙ ap (λ (m : ℕ). whose m (copied b ep m x y) (got ep (copied b ep m x y) m size c f (writeIndex ep g))) (count ∙ same-count ep g is)
 
 -- the call, by what the tests came to
-module _ (k : Record) (ep : ℕ) (f l b : List ℕ) {v : Verdict} (is : v ≡ tests k ep (length b) (length f) (length l)) where
-  by : (w : Verdict) → v ≡ w → readBy w k ep f l b ≡ readCall k ep f l b
-  unfolding readCall
-  by w e = ap (λ (v : Verdict). readBy v k ep f l b) (sym e ∙ is)
+module _ (b : Board) (w : File) (c : ControlState) (f : Flags) (size ep : ℕ) (x y l : List ℕ) {v : Verdict} (is : v ≡ testsIn b w c f ep (length x) (length y) (length l)) where
+  by : (u : Verdict) → v ≡ u → readBy u b c f size ep x y (log w l 0) ≡ readIn b w c f size ep x y l
+  unfolding readIn
+  by u e = ap (λ (v : Verdict). readBy v b c f size ep x y (log w l 0)) (sym e ∙ is)
 
-  pub call-clear : {o : ReadOutcome} → v ≡ verdict.Clear → o ≡ taken k ep f l b → o ≡ readCall k ep f l b
+  pub call-clear : {o : Taken} → v ≡ verdict.Clear → o ≡ taken b c f size ep x y (log w l 0) → o ≡ readIn b w c f size ep x y l
   call-clear e p = p ∙ by verdict.Clear e
 
-  pub call-blocked : {r : Fetched} {m : List ℕ} → v ≡ verdict.Blocked → ran r m ≡ blocked k ep l → record { result = r; list = m; buf = b } ≡ readCall k ep f l b
-  call-blocked e p = ap (leaving b) p ∙ by verdict.Blocked e
+  pub call-blocked : {s : After} → v ≡ verdict.Blocked → s ≡ blocked ep c f (log w l 0)
+      → record { answer = Refused WouldBlock; buf = x; after = s } ≡ readIn b w c f size ep x y l
+  call-blocked e p = ap (refused WouldBlock x) p ∙ by verdict.Blocked e
 
-  pub call-refused : {x : Refusal} → v ≡ verdict.Refused x
-      → record { result = record { answer = Refused x; «record» = k; stores = 0 }; list = l; buf = b } ≡ readCall k ep f l b
-  call-refused {x} e = by (verdict.Refused x) e
+  pub call-refused : (r : Refusal) → v ≡ verdict.Refused r
+      → record { answer = Refused r; buf = x; after = after c f (log w l 0) } ≡ readIn b w c f size ep x y l
+  call-refused r e = by (verdict.Refused r) e

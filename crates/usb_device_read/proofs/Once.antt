@@ -1,5 +1,5 @@
 -- No second outcome meets the contract of `read`: the answer, the record, the count, the list and the caller's buffer are one.
--- An exit has a place for each argument: the list's is the fourth, the buffer's the fifth.
+-- An exit has a place for each argument: the buffer's is the third, the list's the fifth.
 -- Assumes nothing.
 use mathlib.Core.Path.{_≡_, sym, ap, _∙_}
 use contract.Lifetimes.{Lfts}
@@ -11,6 +11,6 @@ use Rattle.usb_device_read.proofs.read.Kinds as kinds
 use Rattle.usb_device_read.proofs.read.Reads as reads
 
 pub once : (κs : Lfts 3) (a : Dens κs kinds.ps) (x y : resT kinds.r κs .Denot) (e f : AtExit (endedOf 3 kinds.ps kinds.r) κs)
-    → reads.Post κs a x e → reads.Post κs a y f → (x ≡ y) × (now (e .1 .1 .1 .0) ≡ now (f .1 .1 .1 .0)) × (now (e .1 .1 .1 .1 .0) ≡ now (f .1 .1 .1 .1 .0))
+    → reads.Post κs a x e → reads.Post κs a y f → (x ≡ y) × (now (e .1 .1 .1 .1 .0) ≡ now (f .1 .1 .1 .1 .0)) × (now (e .1 .1 .0) ≡ now (f .1 .1 .0))
 once κs a x y e f p q =
     (ap (λ (o : ReadOutcome). o .result) (p ∙ sym q), ap (λ (o : ReadOutcome). o .list) (p ∙ sym q), ap (λ (o : ReadOutcome). o .buf) (p ∙ sym q))

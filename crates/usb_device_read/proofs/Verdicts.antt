@@ -5,14 +5,19 @@ use mathlib.Core.Path.{_≡_, refl, sym, ap, _∙_}
 use mathlib.Core.Bool.{Bool, true, false}
 use native.Mathlib.Omega.{arith}
 use lib.Dec.{leb}
-use Rattle.peek.specs.Peek.{short}
+use Rattle.board.specs.declared.Board.{Board}
+use Rattle.regs.specs.Registers.{File}
+use Rattle.control_state.specs.declared.ControlState.{ControlState}
+use Rattle.peek.specs.declared.Verdict.{Verdict}
+use Rattle.peek.specs.declared.Verdict.the-variants.{Clear, Blocked, Refused}
+use Rattle.peek.specs.Peek.{short, testsBy}
 use Rattle.peek.proofs.Lent.{lent-enough}
+use Rattle.record.specs.declared.Flags.{Flags}
 use Rattle.record.specs.declared.Record.{Record}
-use Rattle.record.specs.Record.{needOf, endpointsOf, recordSound, refusalNumber, entryBy}
-use Rattle.read_tests.specs.declared.Verdict.{Verdict}
-use Rattle.read_tests.specs.declared.Verdict.the-variants.{Clear, Blocked, Refused}
-use Rattle.read_tests.specs.Read.{notReadable, notSetup, ownTests, ownTestsAt, testsBy, tests}
-use Rattle.usb_device_read.specs.Replies.{unready, Given, done, blocks, beyond, unreadable, unset, little, unsound}
+use Rattle.record.specs.Record.{needIn, needOf, endpointsOf, passes, recordSound, refusalNumber, admissionBy}
+use Rattle.read_tests.specs.Read.{ownTests, ownTestsAt, testsIn, tests}
+use Rattle.usb_device_read.specs.Replies.{unready, notReadable, notSetup, Given, done, blocks, beyond, unreadable, unset, little, unsound}
+use Rattle.usb_device_read.proofs.Laws.{whole}
 
 abbrev pub verdictNumber : Verdict → ℕ
 verdictNumber Clear = 0
@@ -20,9 +25,15 @@ verdictNumber Blocked = 6
 verdictNumber (Refused x) = refusalNumber x
 
 module _ (k : Record) (ep n f l : ℕ) where
+  -- the six tests, as the rows of the table name them
+  pub told : tests k ep n f l
+      ≡ testsBy (admissionBy (short k f l) (recordSound k) (leb (endpointsOf k) ep)) (ownTests (unready k ep) (notReadable k ep) (notSetup k ep n))
+  unfolding tests testsIn ownTestsAt short recordSound endpointsOf
+  told = refl
+
   -- by the six tests, whatever they say
   by : (a b c d e g : Bool) → short k f l ≡ a → recordSound k ≡ b → leb (endpointsOf k) ep ≡ c → unready k ep ≡ d → notReadable k ep ≡ e → notSetup k ep n ≡ g
-      → Given k ep n f l (verdictNumber (testsBy (entryBy a b c) (ownTests d e g)))
+      → Given k ep n f l (verdictNumber (testsBy (admissionBy a b c) (ownTests d e g)))
   by true b c d e g p q r s t u = little p
   by false false c d e g p q r s t u = unsound p q
   by false true true d e g p q r s t u = beyond p q r
@@ -33,19 +44,17 @@ module _ (k : Record) (ep n f l : ℕ) where
 
   -- each verdict meets its row
   pub meets : Given k ep n f l (verdictNumber (tests k ep n f l))
-  unfolding tests ownTestsAt
-  meets = by _ _ _ _ _ _ refl refl refl refl refl refl
+  meets = rw told (by _ _ _ _ _ _ refl refl refl refl refl refl)
 
   -- and a row that is met decides the verdict
   pub decides : {m : ℕ} → Given k ep n f l m → verdictNumber (tests k ep n f l) ≡ m
-  unfolding tests ownTestsAt
-  decides (done a s t u) = rw (a .lent, a .passes, a .there, s, t, u)
-  decides (blocks a s) = rw (a .lent, a .passes, a .there, s)
-  decides (beyond p q r) = rw (p, q, r)
-  decides (unreadable a s t) = rw (a .lent, a .passes, a .there, s, t)
-  decides (unset a s t u) = rw (a .lent, a .passes, a .there, s, t, u)
-  decides (little p) = rw p
-  decides (unsound p q) = rw (p, q)
+  decides (done a s t u) = ap verdictNumber told ∙ rw (a .lent, a .passes, a .there, s, t, u)
+  decides (blocks a s) = ap verdictNumber told ∙ rw (a .lent, a .passes, a .there, s)
+  decides (beyond p q r) = ap verdictNumber told ∙ rw (p, q, r)
+  decides (unreadable a s t) = ap verdictNumber told ∙ rw (a .lent, a .passes, a .there, s, t)
+  decides (unset a s t u) = ap verdictNumber told ∙ rw (a .lent, a .passes, a .there, s, t, u)
+  decides (little p) = ap verdictNumber told ∙ rw p
+  decides (unsound p q) = ap verdictNumber told ∙ rw (p, q)
 
   -- enough is lent
   room : {m : ℕ} → Given k ep n f l m → m ≡ 0 → (recordSound k ≡ true) × (needOf k ≤ f) × (384 ≤ l)
@@ -66,18 +75,23 @@ module _ (k : Record) (ep n f l : ℕ) where
   listed (little p) e = absurd (omega arith)
   listed (unsound p q) e = absurd (omega arith)
 
-  pub clear-fits : {v : Verdict} → v ≡ tests k ep n f l → v ≡ Clear → (recordSound k ≡ true) × (needOf k ≤ f) × (384 ≤ l)
-  clear-fits is e = room meets (ap verdictNumber (sym is ∙ e))
-
-  pub blocked-fits : {v : Verdict} → v ≡ tests k ep n f l → v ≡ Blocked → 384 ≤ l
-  blocked-fits is e = listed meets (ap verdictNumber (sym is ∙ e))
-
   pub is-blocked : {m : ℕ} → Given k ep n f l m → m ≡ 6 → tests k ep n f l ≡ Blocked
-  unfolding tests ownTestsAt
-  is-blocked (blocks a s) e = rw (a .lent, a .passes, a .there, s)
+  is-blocked (blocks a s) e = told ∙ rw (a .lent, a .passes, a .there, s)
   is-blocked (done a s t u) e = absurd (omega arith)
   is-blocked (beyond p q r) e = absurd (omega arith)
   is-blocked (unreadable a s t) e = absurd (omega arith)
   is-blocked (unset a s t u) e = absurd (omega arith)
   is-blocked (little p) e = absurd (omega arith)
   is-blocked (unsound p q) e = absurd (omega arith)
+
+module _ (b : Board) (w : File) (c : ControlState) (f : Flags) (ep n fifo list : ℕ) {v : Verdict} (is : v ≡ testsIn b w c f ep n fifo list) where
+  number : (u : Verdict) → v ≡ u → verdictNumber (tests (whole b w c f) ep n fifo list) ≡ verdictNumber u
+  unfolding tests
+  number u e = ap verdictNumber (sym is ∙ e)
+
+  pub clear-fits : v ≡ Clear → (passes b w f ≡ true) × (needIn b ≤ fifo) × (384 ≤ list)
+  unfolding recordSound needOf
+  clear-fits e = room (whole b w c f) ep n fifo list (meets (whole b w c f) ep n fifo list) (number Clear e)
+
+  pub blocked-fits : v ≡ Blocked → 384 ≤ list
+  blocked-fits e = listed (whole b w c f) ep n fifo list (meets (whole b w c f) ep n fifo list) (number Blocked e)

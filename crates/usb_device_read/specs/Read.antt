@@ -6,18 +6,26 @@ use mathlib.Core.List.{List}
 use lib.Dec.{eqb}
 use lib.ListN.{length, take, drop}
 use Rattle.laws.specs.Lists.{pasted}
+use Rattle.board.specs.declared.Board.{Board}
 use Rattle.board.specs.declared.Direction.the-variants.{Out}
 use Rattle.csr.specs.declared.RxcsrlSet.the-variants as rxcsrl
+use Rattle.regs.specs.Registers.{File}
 use Rattle.stores.specs.Stores.{Log, log, writeIndex, modifyRxcsrl}
+use Rattle.control_state.specs.declared.ControlState.{ControlState}
+use Rattle.record.specs.declared.Flags.{Flags}
 use Rattle.record.specs.declared.Record.{Record}
 use Rattle.record.specs.declared.Refusal.{Refusal}
-use Rattle.record.specs.Record.{areaOf}
-use Rattle.read_zero.specs.declared.Got.the-variants.{Refused}
+use Rattle.record.specs.declared.Refusal.the-variants.{WouldBlock}
+use Rattle.record.specs.Record.{areaIn}
+use Rattle.peek.specs.declared.Verdict.{Verdict}
+use Rattle.peek.specs.declared.Verdict.the-variants as verdict
+use Rattle.peek.specs.Peek.{rxCount, After, after, afterOf, leaving, blocked}
+use Rattle.read_zero.specs.declared.Got.{Got}
+use Rattle.read_zero.specs.declared.Got.the-variants.{Done, Refused}
 use Rattle.read_zero.specs.declared.Fetched.{Fetched}
-use Rattle.read_tests.specs.declared.Verdict.{Verdict}
-use Rattle.read_tests.specs.declared.Verdict.the-variants as verdict
-use Rattle.read_zero.specs.Read.{Ran, ran, done, blocked, readZero}
-use Rattle.read_tests.specs.Read.{waiting, tests}
+use Rattle.read_zero.specs.Read.{rxSize, readZero}
+use Rattle.read_tests.specs.Read.{testsIn}
+use Rattle.usb_device_read.specs.declared.Took.{Took}
 
 -- all that the call leaves
 pub record ReadOutcome : Type 0 where
@@ -25,32 +33,48 @@ pub record ReadOutcome : Type 0 where
   pub list : List ℕ
   pub buf : List ℕ
 
-abbrev pub leaving : List ℕ → Ran → ReadOutcome
-leaving b s = record { result = s .result; list = s .list; buf = b }
+-- the same without the parts of the record that no read changes
+pub record Taken : Type 0 where
+  pub answer : Got
+  pub buf : List ℕ
+  pub after : After
+
+abbrev pub tookOf : Took → File → List ℕ → List ℕ → Taken
+tookOf o w l x = record { answer = o .answer; buf = x; after = afterOf (o .served) w l }
+
+abbrev pub outcome : Record → Taken → ReadOutcome
+outcome k t = record { result = record { answer = t .answer; «record» = leaving k (t .after); stores = t .after .log .count }; list = t .after .log .list; buf = t .buf }
+
+-- the steps: x is the caller's buffer, y the FIFO memory, which is lent to be read, and stays -----------------------------------
 
 -- `buf.into_iter().take(read_count)`: "Read copies the shorter of packet and buffer"; every other byte of the buffer stays
-unfoldable pub copied : Record → ℕ → List ℕ → List ℕ → List ℕ
-copied k ep f b = pasted b 0 (take (min (waiting k ep) (length b)) (drop (areaOf k ep Out .start) f))
+unfoldable pub copied : Board → ℕ → ℕ → List ℕ → List ℕ → List ℕ
+copied b ep n x y = pasted x 0 (take (min n (length x)) (drop (areaIn b ep Out .start) y))
 
 -- the others: `rxcsrl().modify(|w| w.set_rx_pkt_rdy(false))`, which drops it too
-unfoldable pub readOther : ℕ → Record → Log → Ran
-readOther n k g = done n k (modifyRxcsrl rxcsrl.NoRxPktRdy g)
+unfoldable pub readOther : ControlState → Flags → Log → After
+readOther c f g = after c f (modifyRxcsrl rxcsrl.NoRxPktRdy g)
 
-unfoldable pub got : Record → ℕ → List ℕ → ℕ → Log → Ran
-got k ep b n g = cond (eqb ep 0) (readZero b n k g) (readOther n k g)
+unfoldable pub got : ℕ → List ℕ → ℕ → ℕ → ControlState → Flags → Log → After
+got ep x n size c f g = cond (eqb ep 0) (readZero x n size c f g) (readOther c f g)
 
--- a packet that is read: "returns the packet's length, and drops the packet". The FIFO is lent to be read, and stays.
-unfoldable pub taken : Record → ℕ → List ℕ → List ℕ → List ℕ → ReadOutcome
-taken k ep f l b = leaving (copied k ep f b) (got k ep (copied k ep f b) (waiting k ep) (writeIndex ep (log (k .regs) l 0)))
+-- a packet that is read: "returns the packet's length, and drops the packet"
+unfoldable pub taken : Board → ControlState → Flags → ℕ → ℕ → List ℕ → List ℕ → Log → Taken
+taken b c f size ep x y g =
+    let n = rxCount ep (g .regs) in
+    record { answer = Done n; buf = copied b ep n x y; after = got ep (copied b ep n x y) n size c f (writeIndex ep g) }
 
 -- the whole call. "A refusal returns its number and changes nothing: record, FIFOs, list, caller's buffer."
-abbrev pub refused : Refusal → Record → List ℕ → Ran
-refused x k l = ran (record { answer = Refused x; «record» = k; stores = 0 }) l
+abbrev pub refused : Refusal → List ℕ → After → Taken
+refused r x s = record { answer = Refused r; buf = x; after = s }
 
-abbrev pub readBy : Verdict → Record → ℕ → List ℕ → List ℕ → List ℕ → ReadOutcome
-readBy verdict.Clear k ep f l b = taken k ep f l b
-readBy verdict.Blocked k ep f l b = leaving b (blocked k ep l)
-readBy (verdict.Refused x) k ep f l b = leaving b (refused x k l)
+abbrev pub readBy : Verdict → Board → ControlState → Flags → ℕ → ℕ → List ℕ → List ℕ → Log → Taken
+readBy verdict.Clear b c f size ep x y g = taken b c f size ep x y g
+readBy verdict.Blocked b c f size ep x y g = refused WouldBlock x (blocked ep c f g)
+readBy (verdict.Refused r) b c f size ep x y g = refused r x (after c f g)
+
+unfoldable pub readIn : Board → File → ControlState → Flags → ℕ → ℕ → List ℕ → List ℕ → List ℕ → Taken
+readIn b w c f size ep x y l = readBy (testsIn b w c f ep (length x) (length y) (length l)) b c f size ep x y (log w l 0)
 
 unfoldable pub readCall : Record → ℕ → List ℕ → List ℕ → List ℕ → ReadOutcome
-readCall k ep f l b = readBy (tests k ep (length b) (length f) (length l)) k ep f l b
+readCall k ep b f l = outcome k (readIn (k .regs .board) (k .regs .words) (k .«control_state») (k .irq) (rxSize k) ep b f l)

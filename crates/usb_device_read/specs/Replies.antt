@@ -4,11 +4,10 @@ use Prim.Native.Nat.{ℕ}
 use mathlib.Core.Path.{_≡_}
 use mathlib.Core.Bool.{Bool, true, false, not}
 use lib.Dec.{leb}
-use Rattle.regs.specs.Registers.{withIndex}
 use Rattle.peek.specs.Peek.{short, rxPktRdy}
 use Rattle.record.specs.declared.Record.{Record}
 use Rattle.record.specs.Record.{recordSound, endpointsOf}
-use Rattle.read_tests.specs.Read.{notReadable, notSetup}
+use Rattle.read_tests.specs.Read as tests
 
 -- the three tests that come first, passed: enough is lent, the record passes, the endpoint is there
 pub record Admitted (k : Record) (ep fifo list : ℕ) : Type 0 where
@@ -18,7 +17,14 @@ pub record Admitted (k : Record) (ep fifo list : ℕ) : Type 0 where
 
 -- reply 6: "read: RxPktRdy clear"
 abbrev pub unready : Record → ℕ → Bool
-unready k ep = not (rxPktRdy ep (withIndex (k .regs) ep))
+unready k ep = not (rxPktRdy ep (k .regs .words))
+
+-- replies 12 and 13
+abbrev pub notReadable : Record → ℕ → Bool
+notReadable k ep = tests.notReadable (k .«control_state») ep
+
+abbrev pub notSetup : Record → ℕ → ℕ → Bool
+notSetup k ep room = tests.notSetup (k .regs .words) (k .«control_state») ep room
 
 -- a reply's row holds, and in the order 15, 16, 8, 6, 12, 13 none before it. No other number is a reply of read's.
 pub data Given (k : Record) (ep room fifo list : ℕ) : ℕ → Type 0 where

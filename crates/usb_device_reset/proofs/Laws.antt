@@ -3,14 +3,20 @@
 use Prim.Native.Nat.{ℕ}
 use mathlib.Core.Path.{_≡_, ap, _∙_}
 use mathlib.Core.Bool.{true, false}
+use mathlib.Core.List.{List}
+use Rattle.board.specs.declared.Board.{Board}
+use Rattle.regs.specs.Registers.{File}
 use Rattle.endpoints.specs.declared.EndpointData.{EndpointData}
 use Rattle.stores.specs.Stores.{Log, writePower}
 use Rattle.enabling.specs.Common.{epTxEnable, epRxEnable}
 use Rattle.record.specs.declared.Record.{Record}
-use Rattle.record.specs.Record.{endpointsOf}
-use Rattle.usb_device_reset.specs.Calls.{txEnabled, rxEnabled, usedEnabled, enabledBelow, resetStores}
+use Rattle.record.specs.Record.{recordSound, admissionBy, endpointsIn, endpointsOf}
+use Rattle.usb_device_impl.specs.declared.Called.{Called}
+use Rattle.usb_device_impl.specs.declared.Ran.{Ran}
+use Rattle.usb_device_impl.specs.Calls.{short, begun, idled, left, ended}
+use Rattle.usb_device_impl.proofs.Laws.{together}
+use Rattle.usb_device_reset.specs.Calls.{txEnabled, rxEnabled, usedEnabled, enabledBelow, resetStores, resetCall, resetIn, resetRan}
 
--- stalling, by direction
 module _ (e : ℕ) (g : Log) where
   -- enabling, where a direction is used and where it is not
   module _ (ep : EndpointData) where
@@ -34,6 +40,14 @@ module _ (e : ℕ) (g : Log) where
     unfolding usedEnabled
     both p q = q ∙ ap (rxEnabled e ep) p
 
-pub reset-all : (k : Record) (g : Log) {a o : Log} {m : ℕ} → a ≡ writePower g → m ≡ endpointsOf k → o ≡ enabledBelow (k .endpoints) m a → o ≡ resetStores k g
-unfolding resetStores
-reset-all k g p q s = s ∙ ap (enabledBelow (k .endpoints) _) p ∙ ap (λ (n : ℕ). enabledBelow (k .endpoints) n (writePower g)) q
+pub reset-all : (b : Board) (es : List EndpointData) (g : Log) {a o : Log} {m : ℕ} → a ≡ writePower g → m ≡ endpointsIn b → o ≡ enabledBelow es m a → o ≡ resetIn b es g
+unfolding resetIn
+reset-all b es g p q s = s ∙ ap (enabledBelow es _) p ∙ ap (λ (n : ℕ). enabledBelow es n (writePower g)) q
+
+-- the parts put together are what the call leaves
+pub reset-whole : (k : Record) (l : List ℕ) {a : Called} {o : Ran} {w : File} {m : List ℕ}
+    → left o w m ≡ resetRan (k .regs .board) (k .«control_state») (k .irq) (k .endpoints) (begun k l) → a ≡ ended k w o
+    → record { call = a; list = m } ≡ resetCall k l
+unfolding resetCall resetRan resetStores resetIn recordSound endpointsOf
+reset-whole k l p q =
+    together k l (admissionBy (short l) (recordSound k) false) (idled (k .«control_state»)) (resetStores k (begun k l)) p q

@@ -4,13 +4,16 @@ use Prim.Native.Nat.{ℕ, zero, suc}
 use mathlib.Core.Bool.{false, cond}
 use mathlib.Core.List.{List}
 use lib.ListN.{getD}
+use Rattle.board.specs.declared.Board.{Board}
+use Rattle.control_state.specs.declared.ControlState.{ControlState}
 use Rattle.endpoints.specs.declared.EndpointData.{EndpointData}
 use Rattle.endpoints.specs.Endpoints.{blank}
 use Rattle.stores.specs.Stores.{Log, writePower}
 use Rattle.enabling.specs.Common.{epTxEnable, epRxEnable}
+use Rattle.record.specs.declared.Flags.{Flags}
 use Rattle.record.specs.declared.Record.{Record}
-use Rattle.record.specs.Record.{recordSound, entryBy, endpointsOf}
-use Rattle.usb_device_impl.specs.Calls.{Outcome, stored, unless, short, begun, idled}
+use Rattle.record.specs.Record.{recordSound, admissionBy, endpointsIn, endpointsOf}
+use Rattle.usb_device_impl.specs.Calls.{Outcome, stored, unless, short, begun, idled, Left, ranStored, ranUnless, admitted}
 
 -- the body of `reset`'s `for_each`: `if ep.used_tx { .. }`, then `if ep.used_rx { .. }`
 unfoldable pub txEnabled : ℕ → EndpointData → Log → Log
@@ -33,4 +36,11 @@ resetStores k g = enabledBelow (k .endpoints) (endpointsOf k) (writePower g)
 
 -- `reset`
 unfoldable pub resetCall : Record → List ℕ → Outcome
-resetCall k l = unless (entryBy (short l) (recordSound k) false) k l (stored k (idled (k .«control_state»)) (resetStores k (begun k l)))
+resetCall k l = unless (admissionBy (short l) (recordSound k) false) k l (stored k (idled (k .«control_state»)) (resetStores k (begun k l)))
+
+-- by the parts of the record
+unfoldable pub resetIn : Board → List EndpointData → Log → Log
+resetIn b es g = enabledBelow es (endpointsIn b) (writePower g)
+
+unfoldable pub resetRan : Board → ControlState → Flags → List EndpointData → Log → Left
+resetRan b c f es g = ranUnless (admitted b f g false) c g (ranStored (idled c) (resetIn b es g))

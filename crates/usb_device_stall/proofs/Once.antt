@@ -12,9 +12,9 @@ use Rattle.usb_device_stall.proofs.is_stalled.Kinds as is-stalled-kinds
 use Rattle.usb_device_stall.proofs.is_stalled.Reads as is-stalled-reads
 
 pub set-stalled : (κs : Lfts 1) (a : Dens κs set-stalled-kinds.ps) (x y : resT set-stalled-kinds.r κs .Denot) (e f : AtExit (endedOf 1 set-stalled-kinds.ps set-stalled-kinds.r) κs)
-    → set-stalled-reads.Post κs a x e → set-stalled-reads.Post κs a y f → (x ≡ y) × (now (e .1 .0) ≡ now (f .1 .0))
+    → set-stalled-reads.Post κs a x e → set-stalled-reads.Post κs a y f → (x ≡ y) × (now (e .1 .1 .1 .1 .0) ≡ now (f .1 .1 .1 .1 .0))
 set-stalled κs a x y e f p q = (ap (λ (o : Outcome). o .call) (p ∙ sym q), ap (λ (o : Outcome). o .list) (p ∙ sym q))
 
 pub is-stalled : (κs : Lfts 1) (a : Dens κs is-stalled-kinds.ps) (x y : resT is-stalled-kinds.r κs .Denot) (e f : AtExit (endedOf 1 is-stalled-kinds.ps is-stalled-kinds.r) κs)
-    → is-stalled-reads.Post κs a x e → is-stalled-reads.Post κs a y f → (x ≡ y) × (now (e .1 .0) ≡ now (f .1 .0))
+    → is-stalled-reads.Post κs a x e → is-stalled-reads.Post κs a y f → (x ≡ y) × (now (e .1 .1 .1 .0) ≡ now (f .1 .1 .1 .0))
 is-stalled κs a x y e f p q = (ap (λ (o : ToldOutcome). o .call) (p ∙ sym q), ap (λ (o : ToldOutcome). o .list) (p ∙ sym q))

@@ -6,13 +6,12 @@ use mathlib.Core.Bool.{Bool}
 use mathlib.Core.List.{List}
 use native.Mathlib.Omega.{arith}
 use Rattle.board.specs.declared.Direction.{Direction}
-use Rattle.endpoints.specs.declared.Answer.the-variants as answer
 use Rattle.stores.specs.Stores.{Log}
 use Rattle.common_impl.specs.Common.{isStalled}
 use Rattle.record.specs.declared.Record.{Record}
 use Rattle.record.specs.declared.Refusal.{Refusal}
-use Rattle.record.specs.declared.Entry.{Entry}
-use Rattle.record.specs.declared.Entry.the-variants.{Clear, Refused}
+use Rattle.record.specs.declared.Admission.{Admission}
+use Rattle.record.specs.declared.Admission.the-variants.{Clear, Refused}
 use Rattle.record.proofs.Rows.{Row, first, Given, None, given-exactly, clear-exactly}
 use Rattle.usb_device_stall.specs.declared.Told.the-variants as told
 use Rattle.usb_device_impl.specs.Calls.{begun}
@@ -37,7 +36,7 @@ clash-told e = let z : _≡_ {A = ℕ} 0 1 = cc in absurd (omega arith)
 same-told : {x y : Refusal} → told.Refused x ≡ told.Refused y → x ≡ y
 same-told e = cc
 
-tells : (k : Record) (l : List ℕ) (b : Bool) (g : Log) (t : Entry) (rs : List Row) → t ≡ first rs → Tells (unlessTold t k l (toldOf k b g)) k l rs b
+tells : (k : Record) (l : List ℕ) (b : Bool) (g : Log) (t : Admission) (rs : List Row) → t ≡ first rs → Tells (unlessTold t k l (toldOf k b g)) k l rs b
 tells k l b g (Refused y) rs e = record {
   refusals = λ x.
       (λ p. given-exactly x rs .0 (sym e ∙ ap Refused (same-told p)), λ q. ap told.Refused (same (e ∙ given-exactly x rs .1 q)));

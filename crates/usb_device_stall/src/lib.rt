@@ -1,19 +1,22 @@
 // The calls `set_stalled` and `is_stalled` of the source's usb_device_impl/mod.rs.
+use board::Board;
 use board::Direction;
 use common_impl::Stalled;
 use control_state::ControlState;
-use record::Entry;
+use record::Admission;
+use record::Flags;
 use record::Record;
 use record::Refusal;
 use regs::Regs;
-use stores::Logged;
 use usb_device_impl::Called;
+use usb_device_impl::Ran;
 ghost use mathlib.Core.Path.{_≡_};
 ghost use Prim.Native.Nat.{_+_, _*_, _≤_};
 ghost use lib.ListN.{length};
-ghost use Rattle.stores.specs.Stores.{log, logOf, writeIndex};
+ghost use Rattle.stores.specs.Stores.{log, writeIndex};
 ghost use Rattle.common_impl.specs.Common.{isStalled};
-ghost use Rattle.usb_device_stall.specs.Calls.{epStall, afterStall, setStalledCall, toldDone, isStalledCall, toldNumber};
+ghost use Rattle.usb_device_impl.specs.Calls.{left};
+ghost use Rattle.usb_device_stall.specs.Calls.{epStall, afterStall, setStalledRan, setStalledCall, toldLeft, isStalledRan, isStalledCall, toldNumber};
 
 // The answer of `is_stalled`.
 pub enum Told {
@@ -28,19 +31,19 @@ pub struct IsStalled {
 }
 
 fn ep_stall(
-    r: Regs,
+    w: &mut [u16; 46],
     list: &mut [u16],
     n: usize,
     index: u8,
     direction: Direction,
     stalled: bool,
-) -> Logged
+) -> usize
     requires { ⌜ n * 3 + 6 ≤ length (now list) ⌝ }
-    ensures { λ o. ⌜ logOf o (now (list .exit)) ≡ epStall direction index stalled (log r (now (list .entry)) n) ⌝ }
+    ensures { λ m. ⌜ log (now (w .exit)) (now (list .exit)) m ≡ epStall direction index stalled (log (now (w .entry)) (now (list .entry)) n) ⌝ }
 {
     match direction {
-        Direction::In => common_impl::ep_tx_stall(r, list, n, index, stalled),
-        Direction::Out => common_impl::ep_rx_stall(r, list, n, index, stalled),
+        Direction::In => common_impl::ep_tx_stall(w, list, n, index, stalled),
+        Direction::Out => common_impl::ep_rx_stall(w, list, n, index, stalled),
     }
 }
 
@@ -54,66 +57,114 @@ fn after_stall(c: ControlState, index: u8, stalled: bool) -> ControlState
     c
 }
 
-pub fn set_stalled(
-    k: Record,
+fn run_set_stalled(
+    b: Board,
+    w: &mut [u16; 46],
     list: &mut [u16],
+    c: ControlState,
+    f: Flags,
     ep: u8,
     direction: Direction,
     stalled: bool,
+) -> Ran
+    ensures { λ o. ⌜ left o (now (w .exit)) (now (list .exit)) ≡ setStalledRan b c f ep direction stalled (log (now (w .entry)) (now (list .entry)) 0) ⌝ }
+{
+    let t = usb_device_impl::admit_at(list.len(), b, w, f, ep);
+    match t {
+        Admission::Refused(x) => usb_device_impl::refuse(x, c),
+        Admission::Clear => {
+            let n = ep_stall(w, list, 0, ep, direction, stalled);
+            usb_device_impl::done(n, after_stall(c, ep, stalled))
+        }
+    }
+}
+
+pub fn set_stalled(
+    k: Record,
+    ep: u8,
+    direction: Direction,
+    stalled: bool,
+    list: &mut [u16],
 ) -> Called
     ensures { λ a. ⌜ record { call = a; list = now (list .exit) } ≡ setStalledCall k ep direction stalled (now (list .entry)) ⌝ }
 {
-    let t = usb_device_impl::admit_at(list.len(), k, ep);
-    match t {
-        Entry::Refused(x) => usb_device_impl::refuse(k, x),
-        Entry::Clear => {
-            let r = k.regs;
-            let c = k.control_state;
-            let o = ep_stall(r, list, 0, ep, direction, stalled);
-            usb_device_impl::finish(k, after_stall(c, ep, stalled), o)
-        }
-    }
+    let r = k.regs;
+    let b = r.board;
+    let mut w = r.words;
+    let c = k.control_state;
+    let f = k.irq;
+    let o = run_set_stalled(b, &mut w, list, c, f, ep, direction, stalled);
+    usb_device_impl::finish(k, w, o)
 }
 
-fn ep_is_stalled(r: Regs, list: &mut [u16], n: usize, index: u8, direction: Direction) -> Stalled
+fn ep_is_stalled(
+    w: &mut [u16; 46],
+    list: &mut [u16],
+    n: usize,
+    index: u8,
+    direction: Direction,
+) -> Stalled
     requires { ⌜ n * 3 + 3 ≤ length (now list) ⌝ }
-    ensures { λ o. ⌜ (log (o .regs) (now (list .exit)) (o .n) ≡ writeIndex index (log r (now (list .entry)) n)) × (o .stalled ≡ isStalled direction index (log r (now (list .entry)) n)) ⌝ }
+    ensures { λ o. ⌜ (log (now (w .exit)) (now (list .exit)) (o .n) ≡ writeIndex index (log (now (w .entry)) (now (list .entry)) n)) × (o .stalled ≡ isStalled direction index (log (now (w .entry)) (now (list .entry)) n)) ⌝ }
 {
     match direction {
-        Direction::In => common_impl::ep_tx_is_stalled(r, list, n, index),
-        Direction::Out => common_impl::ep_rx_is_stalled(r, list, n, index),
+        Direction::In => common_impl::ep_tx_is_stalled(w, list, n, index),
+        Direction::Out => common_impl::ep_rx_is_stalled(w, list, n, index),
     }
 }
 
-// The record with the registers that a test has left.
-fn tell(k: Record, o: Stalled) -> IsStalled
-    ensures { λ a. ⌜ a ≡ toldDone k (o .stalled) (o .regs) (o .n) ⌝ }
+// What `is_stalled` leaves besides the registers.
+struct Asked {
+    answer: Told,
+    n: usize,
+}
+
+fn run_is_stalled(
+    b: Board,
+    w: &mut [u16; 46],
+    list: &mut [u16],
+    f: Flags,
+    ep: u8,
+    direction: Direction,
+) -> Asked
+    ensures { λ o. ⌜ toldLeft o (now (w .exit)) (now (list .exit)) ≡ isStalledRan b f ep direction (log (now (w .entry)) (now (list .entry)) 0) ⌝ }
 {
-    let r = o.regs;
-    let mut next = k;
-    next.regs = r;
-    IsStalled {
-        answer: Told::Done(o.stalled),
-        record: next,
-        stores: o.n,
+    let t = usb_device_impl::admit_at(list.len(), b, w, f, ep);
+    match t {
+        Admission::Refused(x) => Asked {
+            answer: Told::Refused(x),
+            n: 0,
+        },
+        Admission::Clear => {
+            let o = ep_is_stalled(w, list, 0, ep, direction);
+            Asked {
+                answer: Told::Done(o.stalled),
+                n: o.n,
+            }
+        }
     }
 }
 
-pub fn is_stalled(k: Record, list: &mut [u16], ep: u8, direction: Direction) -> IsStalled
+pub fn is_stalled(k: Record, ep: u8, direction: Direction, list: &mut [u16]) -> IsStalled
     ensures { λ a. ⌜ record { call = a; list = now (list .exit) } ≡ isStalledCall k ep direction (now (list .entry)) ⌝ }
 {
-    let t = usb_device_impl::admit_at(list.len(), k, ep);
-    match t {
-        Entry::Refused(x) => IsStalled {
-            answer: Told::Refused(x),
-            record: k,
-            stores: 0,
+    let r = k.regs;
+    let b = r.board;
+    let mut w = r.words;
+    let e = k.endpoints;
+    let c = k.control_state;
+    let f = k.irq;
+    let o = run_is_stalled(b, &mut w, list, f, ep, direction);
+    let a = o.answer;
+    IsStalled {
+        answer: a,
+        record: Record {
+            regs: Regs { board: b, words: w },
+            endpoints: e,
+            control_state: c,
+            irq: f,
         },
-        Entry::Clear => {
-            let r = k.regs;
-            let o = ep_is_stalled(r, list, 0, ep, direction);
-            tell(k, o)
-        }
+        stores: o.n,
     }
 }
 

@@ -4,73 +4,78 @@
 use Prim.Native.Nat.{ℕ}
 use mathlib.Core.Path.{_≡_, refl, sym, subst, ap, _∙_}
 use mathlib.Core.Logic.{_↔_}
-use mathlib.Core.Bool.{Bool, true, false, cond}
 use mathlib.Core.List.{List}
 use native.Mathlib.Omega.{arith}
-use lib.Dec.{eqb}
 use lib.ListN.{length}
+use Rattle.board.specs.declared.Board.{Board}
 use Rattle.stores.specs.Stores.{Log, log}
+use Rattle.control_state.specs.declared.ControlState.{ControlState}
+use Rattle.record.specs.declared.Flags.{Flags}
 use Rattle.record.specs.declared.Record.{Record}
 use Rattle.record.specs.declared.Refusal.{Refusal}
 use Rattle.record.specs.declared.Refusal.the-variants.{WouldBlock}
-use Rattle.write_zero.specs.declared.Wrote.the-variants.{Done, Refused}
-use Rattle.write_tests.specs.declared.Verdict.{Verdict}
-use Rattle.write_tests.specs.declared.Verdict.the-variants as verdict
-use Rattle.write_zero.specs.Write.{wroteNumber, blocked, sentZero}
-use Rattle.usb_device_write.specs.Write.{leaving, refused, loaded, sentOther, sent, taken, writeBy, writeCall}
+use Rattle.peek.specs.declared.Verdict.{Verdict}
+use Rattle.peek.specs.declared.Verdict.the-variants as verdict
 use Rattle.write_tests.specs.Write.{tests}
+use Rattle.write_zero.specs.declared.Wrote.the-variants.{Done, Refused}
+use Rattle.write_zero.specs.Write.{wroteNumber, txSize}
+use Rattle.usb_device_write.specs.Write.{Ran, WriteOutcome, outcome, refused, blockedCall, taken, writeBy, writeIn, writeCall}
 use Rattle.usb_device_write.specs.Replies.{Given}
 use Rattle.usb_device_write.proofs.Verdicts.{verdictNumber, meets, decides, is-blocked}
-use Rattle.write_zero.proofs.Answers.{zero-done}
 
-sent-done : (k : Record) (ep n : ℕ) (g : Log) → sent k ep n g .result .answer ≡ Done n
-unfolding sent sentOther
-sent-done k ep n g = go (eqb ep 0)
-  where
-    go : (z : Bool) → cond z (sentZero (k .«control_state» .state) n k g) (sentOther n k g) .result .answer ≡ Done n
-    go true = zero-done (k .«control_state» .state) n k g
-    go false = refl
+-- a packet that is taken is done, at whatever endpoint and in whatever state
+pub taken-done : (b : Board) (c : ControlState) (f : Flags) (t ep : ℕ) (bytes x : List ℕ) (g : Log) → taken b c f t ep bytes x g .answer ≡ Done (length bytes)
+unfolding taken
+taken-done b c f t ep bytes x g = refl
 
 module _ (k : Record) (ep : ℕ) (b f l : List ℕ) where
-  pub taken-done : taken k ep b f l .result .answer ≡ Done (length b)
-  unfolding taken
-  taken-done = sent-done k ep (length b) (loaded ep (length b) (log (k .regs) l 0))
+  abbrev verdict-of : Verdict
+  verdict-of = tests k ep (length b) (length f) (length l)
 
-  answered : (v : Verdict) → wroteNumber (writeBy v k ep b f l .result .answer) ≡ verdictNumber v
-  unfolding blocked
-  answered verdict.Clear = ap wroteNumber taken-done
+  abbrev ran-by : Verdict → Ran
+  ran-by v = writeBy v (k .regs .board) (k .«control_state») (k .irq) (txSize k) ep b f (log (k .regs .words) l 0)
+
+  -- the call, by what the tests come to
+  pub call-is : writeCall k ep b f l ≡ outcome k (ran-by verdict-of)
+  unfolding writeCall writeIn tests
+  call-is = refl
+
+  answered : (v : Verdict) → wroteNumber (ran-by v .answer) ≡ verdictNumber v
+  answered verdict.Clear = ap wroteNumber (taken-done (k .regs .board) (k .«control_state») (k .irq) (txSize k) ep b f (log (k .regs .words) l 0))
   answered verdict.Blocked = refl
   answered (verdict.Refused x) = refl
 
+  number : wroteNumber (writeCall k ep b f l .result .answer) ≡ verdictNumber verdict-of
+  number = ap (λ (o : WriteOutcome). wroteNumber (o .result .answer)) call-is ∙ answered verdict-of
+
   -- document 01, 'Reply numbers': "Given exactly when"
   pub exactly : (m : ℕ) → wroteNumber (writeCall k ep b f l .result .answer) ≡ m ↔ Given k ep (length b) (length f) (length l) m
-  unfolding writeCall
   exactly m = (
-    λ e. subst (λ (x : ℕ). Given k ep (length b) (length f) (length l) x) (sym (answered (tests k ep (length b) (length f) (length l))) ∙ e) (meets k ep (length b) (length f) (length l)),
-    λ g. answered (tests k ep (length b) (length f) (length l)) ∙ decides k ep (length b) (length f) (length l) g,
+    λ e. subst (λ (x : ℕ). Given k ep (length b) (length f) (length l) x) (sym number ∙ e) (meets k ep (length b) (length f) (length l)),
+    λ g. number ∙ decides k ep (length b) (length f) (length l) g,
   )
 
   -- "0: done, with its value": the written length
   pub value : (n : ℕ) → writeCall k ep b f l .result .answer ≡ Done n → n ≡ length b
-  unfolding writeCall blocked
-  value n = go (tests k ep (length b) (length f) (length l))
+  value n e = go verdict-of (sym (ap (λ (o : WriteOutcome). o .result .answer) call-is) ∙ e)
     where
-      go : (v : Verdict) → writeBy v k ep b f l .result .answer ≡ Done n → n ≡ length b
-      go verdict.Clear e = let d = taken-done in cc
+      go : (v : Verdict) → ran-by v .answer ≡ Done n → n ≡ length b
+      go verdict.Clear e = let d = taken-done (k .regs .board) (k .«control_state») (k .irq) (txSize k) ep b f (log (k .regs .words) l 0) in cc
       go verdict.Blocked e = let z : _≡_ {A = ℕ} 0 1 = cc in absurd (omega arith)
       go (verdict.Refused x) e = let z : _≡_ {A = ℕ} 0 1 = cc in absurd (omega arith)
 
   -- "A refusal returns its number and changes nothing: record, FIFOs, list"
-  pub unchanged : (x : Refusal) → writeCall k ep b f l .result .answer ≡ Refused x → (x ≡ WouldBlock → ⊥) → writeCall k ep b f l ≡ leaving f (refused x k l)
-  unfolding writeCall blocked
-  unchanged x e n = go (tests k ep (length b) (length f) (length l)) e
+  pub unchanged : (x : Refusal) → writeCall k ep b f l .result .answer ≡ Refused x → (x ≡ WouldBlock → ⊥) → writeCall k ep b f l ≡ refused x k f l
+  unchanged x e n = call-is ∙ go verdict-of (sym (ap (λ (o : WriteOutcome). o .result .answer) call-is) ∙ e)
     where
-      go : (v : Verdict) → writeBy v k ep b f l .result .answer ≡ Refused x → writeBy v k ep b f l ≡ leaving f (refused x k l)
-      go verdict.Clear e = let d = taken-done in let z : _≡_ {A = ℕ} 0 1 = cc in absurd (omega arith)
+      go : (v : Verdict) → ran-by v .answer ≡ Refused x → outcome k (ran-by v) ≡ refused x k f l
+      go verdict.Clear e =
+          let d = taken-done (k .regs .board) (k .«control_state») (k .irq) (txSize k) ep b f (log (k .regs .words) l 0) in
+          let z : _≡_ {A = ℕ} 0 1 = cc in absurd (omega arith)
       go verdict.Blocked e = absurd (n (cc))
-      go (verdict.Refused y) e = let same : y ≡ x = cc in ap (λ (z : Refusal). leaving f (refused z k l)) same
+      go (verdict.Refused y) e = let same : y ≡ x = cc in ap (λ (z : Refusal). refused z k f l) same
 
   -- "The one exception is 6, which has selected the endpoint and listed that store."
-  pub selects : wroteNumber (writeCall k ep b f l .result .answer) ≡ 6 → writeCall k ep b f l ≡ leaving f (blocked k ep l)
-  unfolding writeCall
-  selects e = ap (λ (v : Verdict). writeBy v k ep b f l) (is-blocked k ep (length b) (length f) (length l) (exactly 6 .0 e) refl)
+  pub selects : wroteNumber (writeCall k ep b f l .result .answer) ≡ 6 → writeCall k ep b f l ≡ blockedCall k ep f l
+  selects e =
+      call-is ∙ ap (λ (v : Verdict). outcome k (ran-by v)) (is-blocked k ep (length b) (length f) (length l) (exactly 6 .0 e) refl)

@@ -7,16 +7,22 @@ use mathlib.Core.Bool.{Bool, true, false}
 use native.Mathlib.Omega.{arith}
 use borrow.Author.Tests.{ltb-false}
 use lib.Dec.{leb}
+use Rattle.board.specs.declared.Board.{Board}
 use Rattle.board.specs.declared.Direction.the-variants.{In}
-use Rattle.peek.specs.Peek.{short}
-use Rattle.peek.proofs.Lent.{lent-enough}
-use Rattle.peek.proofs.Sides.{below-six}
+use Rattle.regs.specs.Registers.{File}
+use Rattle.peek.specs.Peek.{shortIn, short, txPktRdy, testsBy}
+use Rattle.peek.specs.declared.Verdict.{Verdict}
+use Rattle.peek.specs.declared.Verdict.the-variants.{Clear, Blocked, Refused}
+use Rattle.peek.proofs.Lent.{enough}
+use Rattle.peek.proofs.Endings.{below-six}
+use Rattle.control_state.specs.declared.ControlState.{ControlState}
+use Rattle.record.specs.declared.Flags.{Flags}
 use Rattle.record.specs.declared.Record.{Record}
-use Rattle.record.specs.Record.{areaOf, needOf, endpointsOf, recordSound, refusalNumber, entryBy}
-use Rattle.write_tests.specs.declared.Verdict.{Verdict}
-use Rattle.write_tests.specs.declared.Verdict.the-variants.{Clear, Blocked, Refused}
-use Rattle.write_tests.specs.Write.{tooLong, notWritable, ownTests, ownTestsAt, testsBy, tests}
-use Rattle.usb_device_write.specs.Replies.{unready, Given, done, blocks, beyond, long, untaken, little, unsound}
+use Rattle.record.specs.Record as of
+use Rattle.record.specs.Record.{areaIn, needIn, endpointsIn, endpointsOf, recordSound, refusalNumber, admissionBy}
+use Rattle.write_tests.specs.Write as write
+use Rattle.write_tests.specs.Write.{ownTests, ownTestsAt, testsIn, tests}
+use Rattle.usb_device_write.specs.Replies.{unready, tooLong, notWritable, Given, done, blocks, beyond, long, untaken, little, unsound}
 
 abbrev pub verdictNumber : Verdict → ℕ
 verdictNumber Clear = 0
@@ -24,9 +30,14 @@ verdictNumber Blocked = 6
 verdictNumber (Refused x) = refusalNumber x
 
 module _ (k : Record) (ep n f l : ℕ) where
+  -- the tests, one beside the other, as the rows name them
+  pub tests-are : tests k ep n f l ≡ testsBy (admissionBy (short k f l) (recordSound k) (leb (endpointsOf k) ep)) (ownTests (unready k ep) (tooLong k ep n) (notWritable k ep n))
+  unfolding tests testsIn ownTestsAt short recordSound endpointsOf
+  tests-are = refl
+
   -- by the six tests, whatever they say
   by : (a b c d e g : Bool) → short k f l ≡ a → recordSound k ≡ b → leb (endpointsOf k) ep ≡ c → unready k ep ≡ d → tooLong k ep n ≡ e → notWritable k ep n ≡ g
-      → Given k ep n f l (verdictNumber (testsBy (entryBy a b c) (ownTests d e g)))
+      → Given k ep n f l (verdictNumber (testsBy (admissionBy a b c) (ownTests d e g)))
   by true b c d e g p q r s t u = little p
   by false false c d e g p q r s t u = unsound p q
   by false true true d e g p q r s t u = beyond p q r
@@ -37,55 +48,65 @@ module _ (k : Record) (ep n f l : ℕ) where
 
   -- each verdict meets its row
   pub meets : Given k ep n f l (verdictNumber (tests k ep n f l))
-  unfolding tests ownTestsAt
-  meets = by _ _ _ _ _ _ refl refl refl refl refl refl
+  meets = rw tests-are (by _ _ _ _ _ _ refl refl refl refl refl refl)
 
   -- and a row that is met decides the verdict
   pub decides : {m : ℕ} → Given k ep n f l m → verdictNumber (tests k ep n f l) ≡ m
-  unfolding tests ownTestsAt
-  decides (done a s t u) = rw (a .lent, a .passes, a .there, s, t, u)
-  decides (blocks a s) = rw (a .lent, a .passes, a .there, s)
-  decides (beyond p q r) = rw (p, q, r)
-  decides (long a s t) = rw (a .lent, a .passes, a .there, s, t)
-  decides (untaken a s t u) = rw (a .lent, a .passes, a .there, s, t, u)
-  decides (little p) = rw p
-  decides (unsound p q) = rw (p, q)
-
-  -- room for the packet in its area and in the buffer
-  not-long : tooLong k ep n ≡ false → n ≤ areaOf k ep In .size
-  unfolding tooLong
-  not-long p = ltb-false _ _ p
-
-  room : {m : ℕ} → Given k ep n f l m → m ≡ 0 → (ep < 6) × (n ≤ areaOf k ep In .size) × (needOf k ≤ f) × (384 ≤ l)
-  room (done a s t u) e = let q = lent-enough k f l (a .lent) in (below-six k ep (a .there), not-long t, q .0, q .1)
-  room (blocks a s) e = absurd (omega arith)
-  room (beyond p q r) e = absurd (omega arith)
-  room (long a s t) e = absurd (omega arith)
-  room (untaken a s t u) e = absurd (omega arith)
-  room (little p) e = absurd (omega arith)
-  room (unsound p q) e = absurd (omega arith)
-
-  listed : {m : ℕ} → Given k ep n f l m → m ≡ 6 → 384 ≤ l
-  listed (blocks a s) e = lent-enough k f l (a .lent) .1
-  listed (done a s t u) e = absurd (omega arith)
-  listed (beyond p q r) e = absurd (omega arith)
-  listed (long a s t) e = absurd (omega arith)
-  listed (untaken a s t u) e = absurd (omega arith)
-  listed (little p) e = absurd (omega arith)
-  listed (unsound p q) e = absurd (omega arith)
-
-  pub clear-fits : {v : Verdict} → v ≡ tests k ep n f l → v ≡ Clear → (ep < 6) × (n ≤ areaOf k ep In .size) × (needOf k ≤ f) × (384 ≤ l)
-  clear-fits is e = room meets (ap verdictNumber (sym is ∙ e))
-
-  pub blocked-fits : {v : Verdict} → v ≡ tests k ep n f l → v ≡ Blocked → 384 ≤ l
-  blocked-fits is e = listed meets (ap verdictNumber (sym is ∙ e))
+  decides (done a s t u) = rw (tests-are, a .lent, a .passes, a .there, s, t, u)
+  decides (blocks a s) = rw (tests-are, a .lent, a .passes, a .there, s)
+  decides (beyond p q r) = rw (tests-are, p, q, r)
+  decides (long a s t) = rw (tests-are, a .lent, a .passes, a .there, s, t)
+  decides (untaken a s t u) = rw (tests-are, a .lent, a .passes, a .there, s, t, u)
+  decides (little p) = rw (tests-are, p)
+  decides (unsound p q) = rw (tests-are, p, q)
 
   pub is-blocked : {m : ℕ} → Given k ep n f l m → m ≡ 6 → tests k ep n f l ≡ Blocked
-  unfolding tests ownTestsAt
-  is-blocked (blocks a s) e = rw (a .lent, a .passes, a .there, s)
+  is-blocked (blocks a s) e = rw (tests-are, a .lent, a .passes, a .there, s)
   is-blocked (done a s t u) e = absurd (omega arith)
   is-blocked (beyond p q r) e = absurd (omega arith)
   is-blocked (long a s t) e = absurd (omega arith)
   is-blocked (untaken a s t u) e = absurd (omega arith)
   is-blocked (little p) e = absurd (omega arith)
   is-blocked (unsound p q) e = absurd (omega arith)
+
+-- what a verdict says of the tests before it
+none : {A : Type 0} {v w : Verdict} → v ≡ w → (verdictNumber v ≡ verdictNumber w → ⊥) → A
+none p n = absurd (n (ap verdictNumber p))
+
+clear-by : (a b c d e g : Bool) → testsBy (admissionBy a b c) (ownTests d e g) ≡ Clear → (a ≡ false) × (c ≡ false) × (e ≡ false)
+clear-by true b c d e g p = none p (λ z. omega arith)
+clear-by false false c d e g p = none p (λ z. omega arith)
+clear-by false true true d e g p = none p (λ z. omega arith)
+clear-by false true false true e g p = none p (λ z. omega arith)
+clear-by false true false false true g p = none p (λ z. omega arith)
+clear-by false true false false false true p = none p (λ z. omega arith)
+clear-by false true false false false false p = (refl, refl, refl)
+
+blocked-by : (a b c d e g : Bool) → testsBy (admissionBy a b c) (ownTests d e g) ≡ Blocked → a ≡ false
+blocked-by true b c d e g p = none p (λ z. omega arith)
+blocked-by false b c d e g p = refl
+
+module _ (b : Board) (w : File) (c : ControlState) (flags : Flags) (ep n f l : ℕ) where
+  -- room for the packet in its area and in the buffer
+  not-long : write.tooLong b ep n ≡ false → n ≤ areaIn b ep In .size
+  unfolding write.tooLong
+  not-long p = ltb-false _ _ p
+
+  cleared : testsIn b w c flags ep n f l ≡ Clear → (shortIn b f l ≡ false) × (leb (endpointsIn b) ep ≡ false) × (write.tooLong b ep n ≡ false)
+  unfolding testsIn ownTestsAt
+  cleared p =
+      clear-by (shortIn b f l) (of.passes b w flags) (leb (endpointsIn b) ep) (txPktRdy ep w) (write.tooLong b ep n) (write.notWritable c ep n) p
+
+  lent-to : testsIn b w c flags ep n f l ≡ Blocked → shortIn b f l ≡ false
+  unfolding testsIn ownTestsAt
+  lent-to p =
+      blocked-by (shortIn b f l) (of.passes b w flags) (leb (endpointsIn b) ep) (txPktRdy ep w) (write.tooLong b ep n) (write.notWritable c ep n) p
+
+  pub clear-fits : {v : Verdict} → v ≡ testsIn b w c flags ep n f l → v ≡ Clear → (ep < 6) × (n ≤ areaIn b ep In .size) × (needIn b ≤ f) × (384 ≤ l)
+  clear-fits is e =
+      let p = cleared (sym is ∙ e) in
+      let q = enough b f l (p .0) in
+      (below-six b ep (p .1), not-long (p .2), q .0, q .1)
+
+  pub blocked-fits : {v : Verdict} → v ≡ testsIn b w c flags ep n f l → v ≡ Blocked → 384 ≤ l
+  blocked-fits is e = enough b f l (lent-to (sym is ∙ e)) .1

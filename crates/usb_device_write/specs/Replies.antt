@@ -4,11 +4,10 @@ use Prim.Native.Nat.{ℕ}
 use mathlib.Core.Path.{_≡_}
 use mathlib.Core.Bool.{Bool, true, false}
 use lib.Dec.{leb}
-use Rattle.regs.specs.Registers.{withIndex}
 use Rattle.peek.specs.Peek.{short, txPktRdy}
 use Rattle.record.specs.declared.Record.{Record}
 use Rattle.record.specs.Record.{recordSound, endpointsOf}
-use Rattle.write_tests.specs.Write.{tooLong, notWritable}
+use Rattle.write_tests.specs.Write as write
 
 -- the three tests that come first, passed: enough is lent, the record passes, the endpoint is there
 pub record Admitted (k : Record) (ep fifo list : ℕ) : Type 0 where
@@ -18,7 +17,14 @@ pub record Admitted (k : Record) (ep fifo list : ℕ) : Type 0 where
 
 -- reply 6: "write: TxPktRdy set"
 abbrev pub unready : Record → ℕ → Bool
-unready k ep = txPktRdy ep (withIndex (k .regs) ep)
+unready k ep = txPktRdy ep (k .regs .words)
+
+-- replies 9 and 11, of the record
+abbrev pub tooLong : Record → ℕ → ℕ → Bool
+tooLong k ep n = write.tooLong (k .regs .board) ep n
+
+abbrev pub notWritable : Record → ℕ → ℕ → Bool
+notWritable k ep n = write.notWritable (k .«control_state») ep n
 
 -- a reply's row holds, and in the order 15, 16, 8, 6, 9, 11 none before it. No other number is a reply of write's.
 pub data Given (k : Record) (ep n fifo list : ℕ) : ℕ → Type 0 where

@@ -6,18 +6,25 @@ use mathlib.Core.List.{List}
 use lib.Dec.{eqb}
 use lib.ListN.{length}
 use Rattle.laws.specs.Lists.{pasted}
+use Rattle.board.specs.declared.Board.{Board}
 use Rattle.board.specs.declared.Direction.the-variants.{In}
 use Rattle.csr.specs.declared.TxcsrlSet.the-variants as txcsrl
+use Rattle.regs.specs.Registers.{File}
 use Rattle.stores.specs.Stores.{Log, log, writeIndex, writePacket, modifyTxcsrl}
+use Rattle.control_state.specs.declared.ControlState.{ControlState}
+use Rattle.record.specs.declared.Flags.{Flags}
 use Rattle.record.specs.declared.Record.{Record}
 use Rattle.record.specs.declared.Refusal.{Refusal}
-use Rattle.record.specs.Record.{areaOf}
-use Rattle.write_zero.specs.declared.Wrote.the-variants.{Refused}
+use Rattle.record.specs.declared.Refusal.the-variants.{WouldBlock}
+use Rattle.record.specs.Record.{areaIn}
+use Rattle.peek.specs.declared.Verdict.{Verdict}
+use Rattle.peek.specs.declared.Verdict.the-variants as verdict
+use Rattle.peek.specs.Peek.{After, after, leaving, blocked}
+use Rattle.write_tests.specs.Write.{testsIn}
+use Rattle.write_zero.specs.declared.Wrote.{Wrote}
+use Rattle.write_zero.specs.declared.Wrote.the-variants.{Done, Refused}
 use Rattle.write_zero.specs.declared.Written.{Written}
-use Rattle.write_tests.specs.declared.Verdict.{Verdict}
-use Rattle.write_tests.specs.declared.Verdict.the-variants as verdict
-use Rattle.write_zero.specs.Write.{Ran, ran, done, blocked, sentZero}
-use Rattle.write_tests.specs.Write.{tests}
+use Rattle.write_zero.specs.Write.{txSize, sentZero}
 
 -- all that the call leaves
 pub record WriteOutcome : Type 0 where
@@ -25,37 +32,57 @@ pub record WriteOutcome : Type 0 where
   pub fifo : List ℕ
   pub list : List ℕ
 
-abbrev pub leaving : List ℕ → Ran → WriteOutcome
-leaving f s = record { result = s .result; fifo = f; list = s .list }
+-- the same by its parts: the answer, the FIFO, and what the steps leave
+pub record Ran : Type 0 where
+  pub answer : Wrote
+  pub fifo : List ℕ
+  pub after : After
+
+abbrev pub ran : Wrote → List ℕ → After → Ran
+ran a x s = record { answer = a; fifo = x; after = s }
+
+abbrev pub outcome : Record → Ran → WriteOutcome
+outcome k o = record {
+  result = record { answer = o .answer; «record» = leaving k (o .after); stores = o .after .log .count };
+  fifo = o .fifo;
+  list = o .after .log .list;
+}
+
+-- In each step: n bytes are written, t is endpoint 0's recorded transmit size, c and f are the control state and the flags before.
 
 -- `index().write(..)`, then `fifo(index).write(..)` of each byte: one store, "none if empty"
 unfoldable pub loaded : ℕ → ℕ → Log → Log
 loaded ep n g = writePacket n (writeIndex ep g)
 
--- at endpoints 1 to 5, with `txcsrl().modify(|w| w.set_tx_pkt_rdy(true))` after it: the stores that change one side
-unfoldable pub filled : ℕ → Log → Log
-filled n g = modifyTxcsrl txcsrl.TxPktRdy (writePacket n g)
-
 -- the others: `txcsrl().modify(|w| w.set_tx_pkt_rdy(true))`
-unfoldable pub sentOther : ℕ → Record → Log → Ran
-sentOther n k g = done n k (modifyTxcsrl txcsrl.TxPktRdy g)
+unfoldable pub sentOther : ControlState → Flags → Log → After
+sentOther c f g = after c f (modifyTxcsrl txcsrl.TxPktRdy g)
+
+unfoldable pub sent : ℕ → ℕ → ℕ → ControlState → Flags → Log → After
+sent ep n t c f g = cond (eqb ep 0) (sentZero (c .state) n t c f g) (sentOther c f g)
 
 -- a packet that is taken: its bytes stand in the endpoint's area, and every other byte stays
-unfoldable pub sent : Record → ℕ → ℕ → Log → Ran
-sent k ep n g = cond (eqb ep 0) (sentZero (k .«control_state» .state) n k g) (sentOther n k g)
-
-unfoldable pub taken : Record → ℕ → List ℕ → List ℕ → List ℕ → WriteOutcome
-taken k ep b f l =
-    leaving (pasted f (areaOf k ep In .start) b) (sent k ep (length b) (loaded ep (length b) (log (k .regs) l 0)))
+unfoldable pub taken : Board → ControlState → Flags → ℕ → ℕ → List ℕ → List ℕ → Log → Ran
+taken b c f t ep bytes x g =
+    ran (Done (length bytes)) (pasted x (areaIn b ep In .start) bytes) (sent ep (length bytes) t c f (loaded ep (length bytes) g))
 
 -- the whole call. "A refusal returns its number and changes nothing: record, FIFOs, list"
-abbrev pub refused : Refusal → Record → List ℕ → Ran
-refused x k l = ran (record { answer = Refused x; «record» = k; stores = 0 }) l
+abbrev pub writeBy : Verdict → Board → ControlState → Flags → ℕ → ℕ → List ℕ → List ℕ → Log → Ran
+writeBy verdict.Clear b c f t ep bytes x g = taken b c f t ep bytes x g
+writeBy verdict.Blocked b c f t ep bytes x g = ran (Refused WouldBlock) x (blocked ep c f g)
+writeBy (verdict.Refused y) b c f t ep bytes x g = ran (Refused y) x (after c f g)
 
-abbrev pub writeBy : Verdict → Record → ℕ → List ℕ → List ℕ → List ℕ → WriteOutcome
-writeBy verdict.Clear k ep b f l = taken k ep b f l
-writeBy verdict.Blocked k ep b f l = leaving f (blocked k ep l)
-writeBy (verdict.Refused x) k ep b f l = leaving f (refused x k l)
+unfoldable pub writeIn : Board → File → ControlState → Flags → ℕ → ℕ → List ℕ → List ℕ → List ℕ → Ran
+writeIn b w c f t ep bytes x l =
+    writeBy (testsIn b w c f ep (length bytes) (length x) (length l)) b c f t ep bytes x (log w l 0)
 
 unfoldable pub writeCall : Record → ℕ → List ℕ → List ℕ → List ℕ → WriteOutcome
-writeCall k ep b f l = writeBy (tests k ep (length b) (length f) (length l)) k ep b f l
+writeCall k ep b f l = outcome k (writeIn (k .regs .board) (k .regs .words) (k .«control_state») (k .irq) (txSize k) ep b f l)
+
+-- what a refused call leaves, but for reply 6: all as it was
+abbrev pub refused : Refusal → Record → List ℕ → List ℕ → WriteOutcome
+refused y k f l = record { result = record { answer = Refused y; «record» = k; stores = 0 }; fifo = f; list = l }
+
+-- and after reply 6: the endpoint is selected, and that store is listed
+abbrev pub blockedCall : Record → ℕ → List ℕ → List ℕ → WriteOutcome
+blockedCall k ep f l = outcome k (ran (Refused WouldBlock) f (blocked ep (k .«control_state») (k .irq) (log (k .regs .words) l 0)))

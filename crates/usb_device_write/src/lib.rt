@@ -1,103 +1,151 @@
 // The call `write` of the source's usb_device_impl: a packet into an endpoint's transmit area.
 // Refusals are tested first, in document 01's order; after them the steps are the source's, in its order.
+use board::Board;
 use board::Direction;
-use csr::Side;
+use control_state::ControlState;
 use csr::TxcsrlSet;
+use peek::Served;
+use peek::Verdict;
+use record::Flags;
 use record::Record;
 use record::Refusal;
-use stores::Logged;
-use stores::Sided;
-use stores::side;
-use write_tests::Verdict;
+use regs::Regs;
 use write_zero::Written;
 use write_zero::Wrote;
 ghost use mathlib.Core.Path.{_≡_};
-ghost use Prim.Native.Nat.{_≤_, _<_};
+ghost use Prim.Native.Nat.{_+_, _*_, _≤_, _<_};
 ghost use lib.ListN.{length};
 ghost use Rattle.board.specs.declared.Direction.the-variants.{In};
 ghost use Rattle.laws.specs.Lists.{pasted};
-ghost use Rattle.record.specs.Record.{areaOf, needOf};
-ghost use Rattle.stores.specs.Stores.{log, logOf, OnSide};
-ghost use Rattle.store_list.specs.Stores.{selectListed};
-ghost use Rattle.write_zero.specs.Write.{ran, blocked};
-ghost use Rattle.usb_device_write.specs.Write.{loaded, filled, sentOther, taken, writeCall};
+ghost use Rattle.record.specs.Record.{areaIn, needIn};
+ghost use Rattle.stores.specs.Stores.{log};
+ghost use Rattle.peek.specs.Peek.{afterOf};
+ghost use Rattle.usb_device_write.specs.Write.{ran, loaded, sentOther, sent, writeIn, writeCall};
 
-// Reply 6: the endpoint is selected.
-fn block(k: Record, ep: u8, list: &mut [u16]) -> Written
-    requires { ⌜ 384 ≤ length (now list) ⌝ }
-    ensures { λ o. ⌜ ran o (now (list .exit)) ≡ blocked k ep (now (list .entry)) ⌝ }
-{
-    let r = k.regs;
-    let a = stores::write_index(r, list, 0, ep);
-    let q = a.regs;
-    let mut out = k;
-    out.regs = q;
-    Written {
-        answer: Wrote::Refused(Refusal::WouldBlock),
-        record: out,
-        stores: a.n,
-    }
+// The answer, and what the steps hand on.
+struct Sent {
+    answer: Wrote,
+    served: Served,
 }
 
 // The endpoint is selected, and the packet's bytes go into its area.
-fn load(k: Record, ep: u8, buf: &[u8], fifo: &mut [u8], list: &mut [u16]) -> Logged
-    requires { ⌜ (length (now buf) ≤ areaOf k ep In .size) × (needOf k ≤ length (now fifo)) × (384 ≤ length (now list)) ⌝ }
-    ensures { λ o. ⌜ (logOf o (now (list .exit)) ≡ loaded ep (length (now (buf .entry))) (log (k .regs) (now (list .entry)) 0)) × (now (fifo .exit) ≡ pasted (now (fifo .entry)) (areaOf k ep In .start) (now (buf .entry))) × (o .n ≤ 2) × (length (now (buf .entry)) < 65536) ⌝ }
+fn load(
+    b: Board,
+    w: &mut [u16; 46],
+    list: &mut [u16],
+    ep: u8,
+    bytes: &[u8],
+    fifo: &mut [u8],
+) -> usize
+    requires { ⌜ (length (now bytes) ≤ areaIn b ep In .size) × (needIn b ≤ length (now fifo)) × (384 ≤ length (now list)) ⌝ }
+    ensures { λ m. ⌜ (log (now (w .exit)) (now (list .exit)) m ≡ loaded ep (length (now (bytes .entry))) (log (now (w .entry)) (now (list .entry)) 0)) × (now (fifo .exit) ≡ pasted (now (fifo .entry)) (areaIn b ep In .start) (now (bytes .entry))) × (m ≤ 2) × (length (now (bytes .entry)) < 65536) ⌝ }
 {
-    let r = k.regs;
-    let a = stores::write_index(r, list, 0, ep);
-    let area = record::area(k, ep, Direction::In);
-    fifo::put_bytes(fifo, area, buf);
-    stores::write_packet(a.regs, list, a.n, buf.len() as u16)
+    let n = stores::write_index(w, list, 0, ep);
+    let area = record::area(b, ep, Direction::In);
+    fifo::put_bytes(fifo, area, bytes);
+    stores::write_packet(w, list, n, bytes.len() as u16)
 }
 
-// The stores of a packet at endpoints 1 to 5, after its endpoint is selected: they change the transmit side t alone.
-fn fill(k: Record, t: Side, ep: u8, buf: &[u8], fifo: &mut [u8], list: &mut [u16]) -> Sided
-    requires { ⌜ (length (now buf) ≤ areaOf k ep In .size) × (needOf k ≤ length (now fifo)) × (384 ≤ length (now list)) ⌝ }
-    ensures { λ o. ⌜ (OnSide (filled (length (now (buf .entry)))) In ep t (selectListed (now (list .entry)) 0 ep) 1 (o .side) (now (list .exit)) (o .n)) × (now (fifo .exit) ≡ pasted (now (fifo .entry)) (areaOf k ep In .start) (now (buf .entry))) ⌝ }
+// At endpoints 1 to 5 the packet is ready at once.
+fn send_other(w: &mut [u16; 46], list: &mut [u16], n: usize, c: ControlState, f: Flags) -> Served
+    requires { ⌜ n * 3 + 3 ≤ length (now list) ⌝ }
+    ensures { λ o. ⌜ afterOf o (now (w .exit)) (now (list .exit)) ≡ sentOther c f (log (now (w .entry)) (now (list .entry)) n) ⌝ }
 {
-    let n = stores::note_select(list, 0, ep);
-    let area = record::area(k, ep, Direction::In);
-    fifo::put_bytes(fifo, area, buf);
-    let a = side::write_packet(t, list, n, ep, buf.len() as u16);
-    side::modify_txcsrl(a.side, list, a.n, ep, TxcsrlSet::TxPktRdy)
-}
-
-// The side is taken out of the registers once and put back once: passing all registers from store to store is most of what a write costs.
-fn send_other(k: Record, ep: u8, buf: &[u8], fifo: &mut [u8], list: &mut [u16]) -> Written
-    requires { ⌜ (ep < 6) × (length (now buf) ≤ areaOf k ep In .size) × (needOf k ≤ length (now fifo)) × (384 ≤ length (now list)) ⌝ }
-    ensures { λ o. ⌜ (ran o (now (list .exit)) ≡ sentOther (length (now (buf .entry))) k (loaded ep (length (now (buf .entry))) (log (k .regs) (now (list .entry)) 0))) × (now (fifo .exit) ≡ pasted (now (fifo .entry)) (areaOf k ep In .start) (now (buf .entry))) ⌝ }
-{
-    let r = k.regs;
-    let s = stores::select(r, ep);
-    let t = peek::side(s, ep, Direction::In);
-    let o = fill(k, t, ep, buf, fifo, list);
-    let q = regs::with_side(s, ep, Direction::In, o.side);
-    write_zero::finish(k, buf.len(), Logged { regs: q, n: o.n })
-}
-
-fn send(k: Record, ep: u8, buf: &[u8], fifo: &mut [u8], list: &mut [u16]) -> Written
-    requires { ⌜ (ep < 6) × (length (now buf) ≤ areaOf k ep In .size) × (needOf k ≤ length (now fifo)) × (384 ≤ length (now list)) ⌝ }
-    ensures { λ o. ⌜ record { result = o; fifo = now (fifo .exit); list = now (list .exit) } ≡ taken k ep (now (buf .entry)) (now (fifo .entry)) (now (list .entry)) ⌝ }
-{
-    if ep == 0 {
-        let a = load(k, ep, buf, fifo, list);
-        return write_zero::send_zero(k, buf.len(), a, list);
+    let m = stores::modify_txcsrl(w, list, n, TxcsrlSet::TxPktRdy);
+    Served {
+        n: m,
+        control_state: c,
+        irq: f,
     }
-    send_other(k, ep, buf, fifo, list)
 }
 
-pub fn write(k: Record, ep: u8, buf: &[u8], fifo: &mut [u8], list: &mut [u16]) -> Written
-    ensures { λ o. ⌜ record { result = o; fifo = now (fifo .exit); list = now (list .exit) } ≡ writeCall k ep (now (buf .entry)) (now (fifo .entry)) (now (list .entry)) ⌝ }
+fn send(
+    b: Board,
+    w: &mut [u16; 46],
+    list: &mut [u16],
+    c: ControlState,
+    f: Flags,
+    size: usize,
+    ep: u8,
+    bytes: &[u8],
+    fifo: &mut [u8],
+) -> Served
+    requires { ⌜ (length (now bytes) ≤ areaIn b ep In .size) × (needIn b ≤ length (now fifo)) × (384 ≤ length (now list)) ⌝ }
+    ensures { λ o. ⌜ (afterOf o (now (w .exit)) (now (list .exit)) ≡ sent ep (length (now (bytes .entry))) size c f (loaded ep (length (now (bytes .entry))) (log (now (w .entry)) (now (list .entry)) 0))) × (now (fifo .exit) ≡ pasted (now (fifo .entry)) (areaIn b ep In .start) (now (bytes .entry))) ⌝ }
 {
-    let v = write_tests::refusal(k, ep, buf.len(), fifo.len(), list.len());
+    let n = load(b, w, list, ep, bytes, fifo);
+    if ep == 0 {
+        return write_zero::send_zero(w, list, n, c, f, bytes.len(), size);
+    }
+    send_other(w, list, n, c, f)
+}
+
+// The whole call, but for the record: its registers are lent, and of its endpoints the call asks endpoint 0's transmit size alone.
+fn write_by(
+    b: Board,
+    w: &mut [u16; 46],
+    list: &mut [u16],
+    c: ControlState,
+    f: Flags,
+    size: usize,
+    ep: u8,
+    bytes: &[u8],
+    fifo: &mut [u8],
+) -> Sent
+    ensures { λ o. ⌜ ran (o .answer) (now (fifo .exit)) (afterOf (o .served) (now (w .exit)) (now (list .exit))) ≡ writeIn b (now (w .entry)) c f size ep (now (bytes .entry)) (now (fifo .entry)) (now (list .entry)) ⌝ }
+{
+    let v = write_tests::refusal(b, w, c, f, ep, bytes.len(), fifo.len(), list.len());
     match v {
-        Verdict::Clear => send(k, ep, buf, fifo, list),
-        Verdict::Blocked => block(k, ep, list),
-        Verdict::Refused(x) => Written {
-            answer: Wrote::Refused(x),
-            record: k,
-            stores: 0,
+        Verdict::Clear => Sent {
+            answer: Wrote::Done(bytes.len()),
+            served: send(b, w, list, c, f, size, ep, bytes, fifo),
         },
+        Verdict::Blocked => Sent {
+            answer: Wrote::Refused(Refusal::WouldBlock),
+            served: peek::block(w, list, ep, c, f),
+        },
+        Verdict::Refused(x) => Sent {
+            answer: Wrote::Refused(x),
+            served: Served {
+                n: 0,
+                control_state: c,
+                irq: f,
+            },
+        },
+    }
+}
+
+pub fn write(k: Record, ep: u8, bytes: &[u8], fifo: &mut [u8], list: &mut [u16]) -> Written
+    ensures { λ o. ⌜ record { result = o; fifo = now (fifo .exit); list = now (list .exit) } ≡ writeCall k ep (now (bytes .entry)) (now (fifo .entry)) (now (list .entry)) ⌝ }
+{
+    let r = k.regs;
+    let e = k.endpoints;
+    let b = r.board;
+    let mut w = r.words;
+    let size = write_zero::tx_size(e);
+    let o = write_by(
+        b,
+        &mut w,
+        list,
+        k.control_state,
+        k.irq,
+        size,
+        ep,
+        bytes,
+        fifo,
+    );
+    let a = o.answer;
+    let s = o.served;
+    let c = s.control_state;
+    let f = s.irq;
+    Written {
+        answer: a,
+        record: Record {
+            regs: Regs { board: b, words: w },
+            endpoints: e,
+            control_state: c,
+            irq: f,
+        },
+        stores: s.n,
     }
 }

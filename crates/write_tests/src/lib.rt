@@ -1,31 +1,27 @@
 // What `write` of the source's usb_device_impl tests before anything changes, in document 01's order. The source selects the endpoint first,
 // and panics where it can't go on.
+use board::Board;
 use board::Direction;
+use control_state::ControlState;
 use control_state::ControlStateEnum;
-use record::Entry;
-use record::Record;
+use peek::Verdict;
+use record::Admission;
+use record::Flags;
 use record::Refusal;
 ghost use mathlib.Core.Path.{_≡_};
 ghost use Prim.Native.Nat.{_<_};
-ghost use Rattle.write_tests.specs.Write.{tooLong, untakenIn, notWritable, ownTests, ownTestsAt, testsBy, tests};
+ghost use Rattle.write_tests.specs.Write.{tooLong, untakenIn, notWritable, ownTestsAt, testsIn};
 
-// What the tests come to. Blocked is reply 6, the one refusal that stores.
-pub enum Verdict {
-    Clear,
-    Blocked,
-    Refused(Refusal),
-}
-
-fn too_long(k: Record, ep: u8, len: usize) -> bool
-    ensures { λ b. ⌜ b ≡ tooLong k ep len ⌝ }
+fn too_long(b: Board, ep: u8, len: usize) -> bool
+    ensures { λ t. ⌜ t ≡ tooLong b ep len ⌝ }
 {
-    let a = record::area(k, ep, Direction::In);
+    let a = record::area(b, ep, Direction::In);
     a.size < len
 }
 
 // The source panics in these states.
 fn untaken_in(s: ControlStateEnum, len: usize) -> bool
-    ensures { λ b. ⌜ b ≡ untakenIn s len ⌝ }
+    ensures { λ t. ⌜ t ≡ untakenIn s len ⌝ }
 {
     match s {
         ControlStateEnum::Idle => !(len == 0),
@@ -37,53 +33,51 @@ fn untaken_in(s: ControlStateEnum, len: usize) -> bool
     }
 }
 
-fn not_writable(k: Record, ep: u8, len: usize) -> bool
-    ensures { λ b. ⌜ b ≡ notWritable k ep len ⌝ }
+fn not_writable(c: ControlState, ep: u8, len: usize) -> bool
+    ensures { λ t. ⌜ t ≡ notWritable c ep len ⌝ }
 {
-    let c = k.control_state;
     let s = c.state;
     (ep == 0) & untaken_in(s, len)
 }
 
-// Write's own tests, in their order: 6, 9, 11.
-fn own_tests(unready: bool, long: bool, untaken: bool) -> Verdict
-    ensures { λ v. ⌜ v ≡ ownTests unready long untaken ⌝ }
+// Write's own tests, each in its turn: 6, 9, 11.
+fn own_tests_at(b: Board, w: &[u16; 46], c: ControlState, ep: u8, len: usize) -> Verdict
+    ensures { λ v. ⌜ v ≡ ownTestsAt b (now (w .entry)) c ep len ⌝ }
 {
-    if unready {
+    if peek::tx_pkt_rdy(w, ep) {
         return Verdict::Blocked;
     }
-    if long {
+    if too_long(b, ep, len) {
         return Verdict::Refused(Refusal::TooLong);
     }
-    if untaken {
+    if not_writable(c, ep, len) {
         return Verdict::Refused(Refusal::NotWritable);
     }
     Verdict::Clear
 }
 
-fn tests_by(e: Entry, own: Verdict) -> Verdict
-    ensures { λ v. ⌜ v ≡ testsBy e own ⌝ }
-{
-    match e {
-        Entry::Clear => own,
-        Entry::Refused(x) => Verdict::Refused(x),
-    }
-}
-
-fn own_tests_at(k: Record, ep: u8, len: usize) -> Verdict
-    ensures { λ v. ⌜ v ≡ ownTestsAt k ep len ⌝ }
-{
-    let r = k.regs;
-    let unready = peek::tx_pkt_rdy(r, ep);
-    let long = too_long(k, ep, len);
-    let untaken = not_writable(k, ep, len);
-    own_tests(unready, long, untaken)
-}
-
 // Every test, before anything changes: 15, 16, 8, then 6, 9, 11.
-pub fn refusal(k: Record, ep: u8, len: usize, fifo: usize, list: usize) -> Verdict
-    ensures { λ v. ⌜ v ≡ tests k ep len fifo list ⌝ }
+pub fn refusal(
+    b: Board,
+    w: &[u16; 46],
+    c: ControlState,
+    f: Flags,
+    ep: u8,
+    len: usize,
+    fifo: usize,
+    list: usize,
+) -> Verdict
+    ensures { λ v. ⌜ v ≡ testsIn b (now (w .entry)) c f ep len fifo list ⌝ }
 {
-    let e = record::admit(peek::is_short(k, fifo, list), k, record::endpoints(k) <= ep);
-    tests_by(e, own_tests_at(k, ep, len))
+    let a = record::admit(
+        peek::is_short(b, fifo, list),
+        b,
+        w,
+        f,
+        record::endpoints(b) <= ep,
+    );
+    match a {
+        Admission::Clear => own_tests_at(b, w, c, ep, len),
+        Admission::Refused(x) => Verdict::Refused(x),
+    }
 }

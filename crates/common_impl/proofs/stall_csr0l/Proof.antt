@@ -15,7 +15,7 @@ same-length c = search needs
 
 returns : tie.Need-returns
 unfolding stallCsr0l
-returns c = rw (c .before .before .before .before .zero-csr0l .ensures) at (c .before .before .write-csr0l .ensures)
+returns c = rw (c .before .before .before .before .before .zero-csr0l .ensures) at (c .before .before .write-csr0l .ensures)
 
 pub stall-csr0l-spec : {M : Type 1} → statement M
 stall-csr0l-spec =

@@ -27,14 +27,14 @@ same-length c = search needs
 
 returns : tie.Need-returns
 unfolding writeCsrl
-returns c = rw (c .before .before .before .before .before .enum-told .given .1) (rw (c .before .before .before .before .zero-rxcsrl .ensures) at (c .before .before .write-rxcsrl .ensures))
+returns c = rw (c .before .before .before .before .before .before .enum-told .given .1) (rw (c .before .before .before .before .before .zero-rxcsrl .ensures) at (c .before .before .write-rxcsrl .ensures))
 
 same-length-2 : tie.Need-same-length-2
 same-length-2 c = search needs
 
 returns-2 : tie.Need-returns-2
 unfolding writeCsrl
-returns-2 c = rw (c .before .before .before .before .before .enum-told2 .given .1) (rw (c .before .before .before .before .zero-txcsrl .ensures) at (c .before .before .write-txcsrl .ensures))
+returns-2 c = rw (c .before .before .before .before .before .before .enum-told2 .given .1) (rw (c .before .before .before .before .before .zero-txcsrl .ensures) at (c .before .before .write-txcsrl .ensures))
 
 pub write-csrl-spec : {M : Type 1} → statement M
 write-csrl-spec =

@@ -1,6 +1,5 @@
 -- `details::of_flags` meets its contract.
 -- Assumes nothing.
-use mathlib.Core.List.{[], _∷_}
 use Rattle.details.specs.Numbers.{ofFlags}
 use borrow.Author.Needs.{needs}
 use Rattle.details.proofs.of_flags.Statement.{statement}
@@ -15,26 +14,36 @@ cast-t5 c = search needs
 weight-requires : tie.Need-weight-requires
 weight-requires c κs = search needs
 
+wide-requires : tie.Need-wide-requires
+wide-requires c κs = search needs
+
 weight-requires-2 : tie.Need-weight-requires-2
 weight-requires-2 c κs = search needs
+
+wide-requires-2 : tie.Need-wide-requires-2
+wide-requires-2 c κs = search needs
 
 weight-requires-3 : tie.Need-weight-requires-3
 weight-requires-3 c κs = search needs
 
+wide-requires-3 : tie.Need-wide-requires-3
+wide-requires-3 c κs = search needs
+
 weight-requires-4 : tie.Need-weight-requires-4
 weight-requires-4 c κs = search needs
 
-cast-t10 : tie.Need-cast-t10
-cast-t10 c = search needs
+wide-requires-4 : tie.Need-wide-requires-4
+wide-requires-4 c κs = search needs
 
-cast-t11 : tie.Need-cast-t11
-cast-t11 c = search needs
+wide-requires-5 : tie.Need-wide-requires-5
+wide-requires-5 c κs = search needs
+
+wide-requires-6 : tie.Need-wide-requires-6
+wide-requires-6 c κs = search needs
 
 returns : tie.Need-returns
 unfolding ofFlags
-returns c =
-    let a = c .before .before .before .before .before .before .before .args in
-    λ i. c .before .before .before .before .before .before .number .ensures i ∷ a .c .«tx_len» ∷ c .before .before .before .before .before .weight .ensures .0 i ∷ c .before .before .before .before .weight2 .ensures .0 i ∷ c .before .before .before .weight3 .ensures .0 i ∷ c .before .before .weight4 .ensures .0 i ∷ a .f .«ep_tx» ∷ a .f .«ep_rx» ∷ []
+returns c = cc
 
 pub of-flags-spec : {M : Type 1} → statement M
 of-flags-spec =
@@ -43,9 +52,13 @@ of-flags-spec =
     number-requires
     cast-t5
     weight-requires
+    wide-requires
     weight-requires-2
+    wide-requires-2
     weight-requires-3
+    wide-requires-3
     weight-requires-4
-    cast-t10
-    cast-t11
+    wide-requires-4
+    wide-requires-5
+    wide-requires-6
     returns)

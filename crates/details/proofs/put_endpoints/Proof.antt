@@ -14,10 +14,10 @@ use Rattle.details.proofs.put_endpoints.Statement.{statement}
 use Rattle.details.proofs.put_endpoints.Tie as tie
 
 abbrev Inv-loop : tie.InvT-loop
-Inv-loop out₀ at r endpoints i₀ m₀ out i m = (i ≤ 6) × (Wrote out₀ out at m (fields (ofEndpoints r endpoints i))) × (m ≤ at + 143 * i) × (length out ≡ length out₀) × (length endpoints ≡ 6)
+Inv-loop out₀ at w endpoints i₀ m₀ out i m = (i ≤ 6) × (Wrote out₀ out at m (fields (ofEndpoints w endpoints i))) × (m ≤ at + 143 * i) × (length out ≡ length out₀) × (length endpoints ≡ 6)
 
 abbrev μ-loop : tie.MeasureT-loop
-μ-loop out₀ at r endpoints i₀ m₀ out i m = 6 - i
+μ-loop out₀ at w endpoints i₀ m₀ out i m = 6 - i
 
 loop-holds : tie.Need-loop-holds Inv-loop μ-loop
 loop-holds c = (omega arith, endpoints-none _ _, omega arith, omega arith, search (needs, length-of))

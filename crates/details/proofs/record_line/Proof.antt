@@ -1,8 +1,12 @@
 -- `details::record_line` meets its contract.
 -- Assumes nothing.
-use Rattle.text.proofs.Appended.{then}
-use native.Mathlib.Omega.{arith}
+use Rattle.details.proofs.Written.{on}
+use Rattle.details.specs.Numbers.{recordNumbers}
 use Rattle.details.specs.Lines.{recordLine}
+use mathlib.Core.Path.{ap}
+use native.Mathlib.Omega.{arith}
+use Rattle.text.specs.Text.{fields}
+use Rattle.text.proofs.Appended.{said, then}
 use borrow.Author.Needs.{needs}
 use Rattle.details.proofs.record_line.Statement.{statement}
 use Rattle.details.proofs.record_line.Tie as tie
@@ -13,8 +17,26 @@ slice-aggregate-put-text c = search needs
 put-text-requires : tie.Need-put-text-requires
 put-text-requires c κs = search needs
 
-put-record-requires : tie.Need-put-record-requires
-put-record-requires c κs = search needs
+of-chip-requires : tie.Need-of-chip-requires
+of-chip-requires c κs = search needs
+
+slice-aggregate-put-numbers : tie.Need-slice-aggregate-put-numbers
+slice-aggregate-put-numbers c = search needs
+
+put-numbers-requires : tie.Need-put-numbers-requires
+put-numbers-requires c κs = search needs
+
+put-endpoints-requires : tie.Need-put-endpoints-requires
+put-endpoints-requires c κs = search needs
+
+of-flags-requires : tie.Need-of-flags-requires
+of-flags-requires c κs = search needs
+
+slice-aggregate-put-numbers-2 : tie.Need-slice-aggregate-put-numbers-2
+slice-aggregate-put-numbers-2 c = search needs
+
+put-numbers-requires-2 : tie.Need-put-numbers-requires-2
+put-numbers-requires-2 c κs = search needs
 
 slice-aggregate-put-text-2 : tie.Need-slice-aggregate-put-text-2
 slice-aggregate-put-text-2 c = search needs
@@ -26,9 +48,12 @@ same-length : tie.Need-same-length
 same-length c = search needs
 
 returns : tie.Need-returns
-unfolding recordLine
+unfolding recordLine recordNumbers
 returns c =
-    (then (then (c .before .before .before .before .before .before .before .before .before .before .before .put-text .ensures) (c .before .before .before .before .before .before .before .put-record .ensures .0)) (c .before .before .put-text2 .ensures), omega (arith, c .before .before .put-text2 .ensures .count))
+    let chip = said (ap fields (c .before .before .before .before .before .before .before .before .before .before .before .before .before .before .before .before .before .before .before .before .before .of-chip .ensures)) (c .before .before .before .before .before .before .before .before .before .before .before .before .before .before .before .before .before .before .put-numbers .ensures .0) in
+    let flags = said (ap fields (c .before .before .before .before .before .before .before .before .before .before .of-flags .ensures)) (c .before .before .before .before .before .before .before .put-numbers2 .ensures .0) in
+    let numbers = on _ _ (on _ _ chip (c .before .before .before .before .before .before .before .before .before .before .before .before .before .put-endpoints .ensures .0)) flags in
+    (then (then (c .before .before .before .before .before .before .before .before .before .before .before .before .before .before .before .before .before .before .before .before .before .before .before .before .before .put-text .ensures) numbers) (c .before .before .put-text2 .ensures), omega (arith, c .before .before .put-text2 .ensures .count, c .before .before .before .before .before .before .before .before .before .before .before .before .before .before .before .before .before .before .before .before .before .before .before .before .before .put-text .ensures .count))
 
 pub record-line-spec : {M : Type 1} → statement M
 record-line-spec =
@@ -36,7 +61,13 @@ record-line-spec =
     (tie.spec
     slice-aggregate-put-text
     put-text-requires
-    put-record-requires
+    of-chip-requires
+    slice-aggregate-put-numbers
+    put-numbers-requires
+    put-endpoints-requires
+    of-flags-requires
+    slice-aggregate-put-numbers-2
+    put-numbers-requires-2
     slice-aggregate-put-text-2
     put-text-requires-2
     same-length

@@ -21,14 +21,14 @@ same-length c = search needs
 
 returns : tie.Need-returns
 unfolding flush
-returns c = rw (c .before .before .before .before .enum-told .given .1) (c .before .before .modify-rxcsrl .ensures)
+returns c = rw (c .before .before .before .before .before .enum-told .given .1) (c .before .before .modify-rxcsrl .ensures)
 
 same-length-2 : tie.Need-same-length-2
 same-length-2 c = search needs
 
 returns-2 : tie.Need-returns-2
 unfolding flush
-returns-2 c = rw (c .before .before .before .before .enum-told2 .given .1) (c .before .before .modify-txcsrl .ensures)
+returns-2 c = rw (c .before .before .before .before .before .enum-told2 .given .1) (c .before .before .modify-txcsrl .ensures)
 
 pub flush-fifo-spec : {M : Type 1} → statement M
 flush-fifo-spec =

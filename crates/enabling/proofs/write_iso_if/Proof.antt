@@ -1,7 +1,7 @@
 -- `enabling::write_iso_if` meets its contract. Assumes nothing.
 use mathlib.Core.Path.{refl}
-use Rattle.laws.proofs.Tests.{when-true, when-false}
 use Rattle.enabling.specs.Common.{isoWritten}
+use Rattle.laws.proofs.Tests.{when-true, when-false}
 use borrow.Author.Needs.{needs}
 use Rattle.enabling.proofs.write_iso_if.Statement.{statement}
 use Rattle.enabling.proofs.write_iso_if.Tie as tie
@@ -14,7 +14,7 @@ same-length c = search needs
 
 returns : tie.Need-returns
 unfolding isoWritten
-returns c = (when-true _ _ (c .before .before .before .before .if1 .taken) (c .before .before .write-iso .ensures .0), search needs)
+returns c = (when-true _ _ (c .before .before .before .before .before .if1 .taken) (c .before .before .write-iso .ensures .0), search needs)
 
 returns-2 : tie.Need-returns-2
 unfolding isoWritten

@@ -1,3 +1,4 @@
+-- `events::arrival` meets its contract. Assumes nothing.
 use borrow.Author.Tests.{ne-eqb}
 use Rattle.events.specs.Events.{arrived}
 use borrow.Author.Needs.{needs}
@@ -18,7 +19,7 @@ interrupt-requires c κs = search needs
 
 returns-2 : tie.Need-returns-2
 unfolding arrived
-returns-2 c = simp (ne-eqb _ _ (c .before .before .if1 .left)) (cc)
+returns-2 c = simp (ne-eqb _ _ (c .before .before .before .before .if1 .left)) (cc)
 
 pub arrival-spec : {M : Type 1} → statement M
 arrival-spec =

@@ -1,4 +1,8 @@
-use Rattle.events.specs.Events.{arrived}
+-- `events::arrival_zero` meets its contract. Assumes nothing.
+use Rattle.regs.specs.Registers.{File, withSide}
+use Rattle.board.specs.declared.Direction.the-variants.{In}
+use mathlib.Core.Path.{ap, _∙_}
+use Rattle.events.specs.Events.{interrupting, unstalled, arrived}
 use borrow.Author.Needs.{needs}
 use Rattle.events.proofs.arrival_zero.Statement.{statement}
 use Rattle.events.proofs.arrival_zero.Tie as tie
@@ -9,17 +13,17 @@ side-at-requires c κs = search needs
 wait-at-requires : tie.Need-wait-at-requires
 wait-at-requires c κs = search needs
 
-with-side-requires : tie.Need-with-side-requires
-with-side-requires c κs = search needs
+put-side-requires : tie.Need-put-side-requires
+put-side-requires c κs = search needs
 
 interrupt-requires : tie.Need-interrupt-requires
 interrupt-requires c κs = search needs
 
 returns : tie.Need-returns
 unfolding arrived
-returns c = cc
+returns c = let b = c .before .before in c .interrupt .ensures ∙ ap (λ (x : File). interrupting x In 0) (b .put-side .ensures ∙ λ t. withSide (b .before .before .wait-at .ensures t) 0 In (unstalled (b .before .before .before .before .side-at .ensures t)))
 
 pub arrival-zero-spec : {M : Type 1} → statement M
 arrival-zero-spec =
     tie.close
-    (tie.spec side-at-requires wait-at-requires with-side-requires interrupt-requires returns)
+    (tie.spec side-at-requires wait-at-requires put-side-requires interrupt-requires returns)

@@ -1,3 +1,4 @@
+-- `events::collect` meets its contract. Assumes nothing.
 use Rattle.events.specs.Events.{collected}
 use borrow.Author.Needs.{needs}
 use Rattle.events.proofs.collect.Statement.{statement}
@@ -9,8 +10,8 @@ side-at-requires c κs = search needs
 drop-packet-requires : tie.Need-drop-packet-requires
 drop-packet-requires c κs = search needs
 
-with-side-requires : tie.Need-with-side-requires
-with-side-requires c κs = search needs
+put-side-requires : tie.Need-put-side-requires
+put-side-requires c κs = search needs
 
 interrupt-requires : tie.Need-interrupt-requires
 interrupt-requires c κs = search needs
@@ -22,4 +23,4 @@ returns c = cc
 pub collect-spec : {M : Type 1} → statement M
 collect-spec =
     tie.close
-    (tie.spec side-at-requires drop-packet-requires with-side-requires interrupt-requires returns)
+    (tie.spec side-at-requires drop-packet-requires put-side-requires interrupt-requires returns)

@@ -1,3 +1,4 @@
+-- `events::miss` meets its contract. Assumes nothing.
 use Rattle.events.specs.Events.{missing}
 use borrow.Author.Needs.{needs}
 use Rattle.events.proofs.miss.Statement.{statement}
@@ -6,12 +7,12 @@ use Rattle.events.proofs.miss.Tie as tie
 side-at-requires : tie.Need-side-at-requires
 side-at-requires c κs = search needs
 
-with-side-requires : tie.Need-with-side-requires
-with-side-requires c κs = search needs
+put-side-requires : tie.Need-put-side-requires
+put-side-requires c κs = search needs
 
 returns : tie.Need-returns
 unfolding missing
 returns c = cc
 
 pub miss-spec : {M : Type 1} → statement M
-miss-spec = tie.close (tie.spec side-at-requires with-side-requires returns)
+miss-spec = tie.close (tie.spec side-at-requires put-side-requires returns)

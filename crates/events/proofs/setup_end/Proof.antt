@@ -1,14 +1,19 @@
+-- `events::setup_end` meets its contract. Assumes nothing.
+use Rattle.regs.specs.Registers.{withSetupend}
 use Rattle.events.specs.Events.{setupEnded}
 use borrow.Author.Needs.{needs}
 use Rattle.events.proofs.setup_end.Statement.{statement}
 use Rattle.events.proofs.setup_end.Tie as tie
 
+element-write-w : tie.Need-element-write-w
+element-write-w c = search needs
+
 interrupt-requires : tie.Need-interrupt-requires
 interrupt-requires c κs = search needs
 
 returns : tie.Need-returns
-unfolding setupEnded
-returns c = c .interrupt .ensures
+unfolding setupEnded withSetupend
+returns c = cc
 
 pub setup-end-spec : {M : Type 1} → statement M
-setup-end-spec = tie.close (tie.spec interrupt-requires returns)
+setup-end-spec = tie.close (tie.spec element-write-w interrupt-requires returns)

@@ -1,3 +1,4 @@
+-- `events::waiting_len` meets its contract. Assumes nothing.
 use borrow.Author.Needs.{needs}
 use Rattle.events.proofs.waiting_len.Statement.{statement}
 use Rattle.events.proofs.waiting_len.Tie as tie

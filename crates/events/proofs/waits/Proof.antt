@@ -1,3 +1,4 @@
+-- `events::waits` meets its contract. Assumes nothing.
 use borrow.Author.Needs.{needs}
 use Rattle.events.proofs.waits.Statement.{statement}
 use Rattle.events.proofs.waits.Tie as tie

@@ -1,5 +1,5 @@
 -- `host::collection_refusal` meets its contract. Assumes nothing.
-use Rattle.host.proofs.Laws.{collection-first, collection-clear, collection-none, never}
+use Rattle.host.proofs.Laws.{collection-first, collection-clear, collection-none}
 use borrow.Author.Needs.{needs}
 use Rattle.host.proofs.collection_refusal.Statement.{statement}
 use Rattle.host.proofs.collection_refusal.Tie as tie
@@ -17,13 +17,13 @@ waits-requires : tie.Need-waits-requires
 waits-requires c κs = search needs
 
 returns : tie.Need-returns
-returns c = (search (collection-clear, needs), λ e. c .before .before .before .before .before .admit .ensures .1 (c .before .before .enum-told .given .1))
+returns c = search (collection-clear, needs)
 
 returns-2 : tie.Need-returns-2
-returns-2 c = (search (collection-first, needs), never)
+returns-2 c = search (collection-first, needs)
 
 returns-3 : tie.Need-returns-3
-returns-3 c = (search (collection-none, needs), never)
+returns-3 c = search (collection-none, needs)
 
 pub collection-refusal-spec : {M : Type 1} → statement M
 collection-refusal-spec =

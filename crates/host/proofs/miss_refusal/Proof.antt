@@ -10,7 +10,7 @@ admit-requires : tie.Need-admit-requires
 admit-requires c κs = search needs
 
 returns : tie.Need-returns
-returns c = rw (← c .before .endpoints .ensures .0) (c .admit .ensures)
+returns c = cc
 
 pub miss-refusal-spec : {M : Type 1} → statement M
 miss-refusal-spec = tie.close (tie.spec endpoints-requires admit-requires returns)

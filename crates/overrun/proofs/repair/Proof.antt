@@ -1,6 +1,6 @@
 -- `overrun::repair` meets its contract. Assumes nothing.
-use mathlib.Core.Path.{ap, _∙_}
 use Rattle.overrun.specs.Common.{overRunCleared}
+use mathlib.Core.Path.{ap, _∙_}
 use borrow.Author.Needs.{needs}
 use Rattle.overrun.proofs.repair.Statement.{statement}
 use Rattle.overrun.proofs.repair.Tie as tie
@@ -15,7 +15,7 @@ same-length : tie.Need-same-length
 same-length c = search needs
 
 returns : tie.Need-returns
-returns c = (c .before .before .clear-over-run .ensures .0 ∙ ap overRunCleared (c .before .before .before .before .before .before .clear-under-run .ensures .0), search needs)
+returns c = (c .before .before .clear-over-run .ensures .0 ∙ ap overRunCleared (c .before .before .before .before .before .before .before .clear-under-run .ensures .0), search needs)
 
 pub repair-spec : {M : Type 1} → statement M
 repair-spec =

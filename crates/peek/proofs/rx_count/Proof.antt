@@ -1,28 +1,19 @@
--- `peek::rx_count` meets its contract. Assumes nothing.
-use borrow.Author.Tests.{eq-eqb, ne-eqb}
 use Rattle.peek.specs.Peek.{rxCount}
 use borrow.Author.Needs.{needs}
 use Rattle.peek.proofs.rx_count.Statement.{statement}
 use Rattle.peek.proofs.rx_count.Tie as tie
+use Rattle.peek.proofs.rx_count.Reads as reads
+use Rattle.peek.proofs.rx_count.Lts as lts
+use Rattle.regs.proofs.side_at.Reads as side-at-reads
 
-select-requires : tie.Need-select-requires
-select-requires c κs = search needs
+-- src/lib.rt:40:9
+side-at-requires : tie.Need-side-at-requires
+side-at-requires c κs = search needs
 
-read-count0-requires : tie.Need-read-count0-requires
-read-count0-requires c κs = search needs
-
+-- src/lib.rt:37:1
 returns : tie.Need-returns
 unfolding rxCount
-returns c = rw (eq-eqb (c .before .before .before .args .e) 0 (c .before .if1 .taken)) cc
-
-read-rxcount-requires : tie.Need-read-rxcount-requires
-read-rxcount-requires c κs = search needs
-
-returns-2 : tie.Need-returns-2
-unfolding rxCount
-returns-2 c = rw (ne-eqb (c .before .before .before .args .e) 0 (c .before .if1 .left)) cc
+returns c = cc
 
 pub rx-count-spec : {M : Type 1} → statement M
-rx-count-spec =
-    tie.close
-    (tie.spec select-requires read-count0-requires returns read-rxcount-requires returns-2)
+rx-count-spec = tie.close (tie.spec side-at-requires returns)

@@ -1,28 +1,19 @@
--- `peek::rx_pkt_rdy` meets its contract. Assumes nothing.
-use borrow.Author.Tests.{eq-eqb, ne-eqb}
 use Rattle.peek.specs.Peek.{rxPktRdy}
 use borrow.Author.Needs.{needs}
 use Rattle.peek.proofs.rx_pkt_rdy.Statement.{statement}
 use Rattle.peek.proofs.rx_pkt_rdy.Tie as tie
+use Rattle.peek.proofs.rx_pkt_rdy.Reads as reads
+use Rattle.peek.proofs.rx_pkt_rdy.Lts as lts
+use Rattle.regs.proofs.side_at.Reads as side-at-reads
 
-select-requires : tie.Need-select-requires
-select-requires c κs = search needs
+-- src/lib.rt:33:9
+side-at-requires : tie.Need-side-at-requires
+side-at-requires c κs = search needs
 
-read-csr0l-requires : tie.Need-read-csr0l-requires
-read-csr0l-requires c κs = search needs
-
+-- src/lib.rt:30:1
 returns : tie.Need-returns
 unfolding rxPktRdy
-returns c = rw (eq-eqb (c .before .before .before .args .e) 0 (c .before .if1 .taken)) cc
-
-read-rxcsrl-requires : tie.Need-read-rxcsrl-requires
-read-rxcsrl-requires c κs = search needs
-
-returns-2 : tie.Need-returns-2
-unfolding rxPktRdy
-returns-2 c = rw (ne-eqb (c .before .before .before .args .e) 0 (c .before .if1 .left)) cc
+returns c = cc
 
 pub rx-pkt-rdy-spec : {M : Type 1} → statement M
-rx-pkt-rdy-spec =
-    tie.close
-    (tie.spec select-requires read-csr0l-requires returns read-rxcsrl-requires returns-2)
+rx-pkt-rdy-spec = tie.close (tie.spec side-at-requires returns)

@@ -1,28 +1,19 @@
--- `peek::tx_pkt_rdy` meets its contract. Assumes nothing.
-use borrow.Author.Tests.{eq-eqb, ne-eqb}
 use Rattle.peek.specs.Peek.{txPktRdy}
 use borrow.Author.Needs.{needs}
 use Rattle.peek.proofs.tx_pkt_rdy.Statement.{statement}
 use Rattle.peek.proofs.tx_pkt_rdy.Tie as tie
+use Rattle.peek.proofs.tx_pkt_rdy.Reads as reads
+use Rattle.peek.proofs.tx_pkt_rdy.Lts as lts
+use Rattle.regs.proofs.side_at.Reads as side-at-reads
 
-select-requires : tie.Need-select-requires
-select-requires c κs = search needs
+-- src/lib.rt:26:9
+side-at-requires : tie.Need-side-at-requires
+side-at-requires c κs = search needs
 
-read-csr0l-requires : tie.Need-read-csr0l-requires
-read-csr0l-requires c κs = search needs
-
+-- src/lib.rt:23:1
 returns : tie.Need-returns
 unfolding txPktRdy
-returns c = rw (eq-eqb (c .before .before .before .args .e) 0 (c .before .if1 .taken)) cc
-
-read-txcsrl-requires : tie.Need-read-txcsrl-requires
-read-txcsrl-requires c κs = search needs
-
-returns-2 : tie.Need-returns-2
-unfolding txPktRdy
-returns-2 c = rw (ne-eqb (c .before .before .before .args .e) 0 (c .before .if1 .left)) cc
+returns c = cc
 
 pub tx-pkt-rdy-spec : {M : Type 1} → statement M
-tx-pkt-rdy-spec =
-    tie.close
-    (tie.spec select-requires read-csr0l-requires returns read-txcsrl-requires returns-2)
+tx-pkt-rdy-spec = tie.close (tie.spec side-at-requires returns)

@@ -1,7 +1,7 @@
 -- `poll_zero::receive` meets its contract. Assumes nothing.
-use Rattle.laws.proofs.Words.{raised-lt6}
-use Rattle.poll_zero.specs.Round.{receivedBy}
 use Rattle.poll_zero.proofs.Laws.{received-other}
+use Rattle.poll_zero.specs.Round.{receivedBy}
+use Rattle.laws.proofs.Words.{raised-lt6}
 use borrow.Author.Needs.{needs}
 use Rattle.poll_zero.proofs.receive.Statement.{statement}
 use Rattle.poll_zero.proofs.receive.Tie as tie
@@ -29,7 +29,7 @@ same-length c = search needs
 
 returns : tie.Need-returns
 unfolding receivedBy
-returns c = (rw (c .before .before .before .before .enum-told .given .1) (c .before .before .take-setup .ensures .0), search needs, search needs)
+returns c = (rw (c .before .before .before .before .before .enum-told .given .1) (c .before .before .take-setup .ensures .0), search needs, search needs)
 
 returns-2 : tie.Need-returns-2
 unfolding receivedBy
@@ -40,7 +40,7 @@ same-length-2 c = search needs
 
 returns-3 : tie.Need-returns-3
 unfolding receivedBy
-returns-3 c = (rw (c .before .before .before .before .enum-told3 .given .1) (c .before .before .cut-short .ensures .0), search needs, search needs)
+returns-3 c = (rw (c .before .before .before .before .before .enum-told3 .given .1) (c .before .before .cut-short .ensures .0), search needs, search needs)
 
 returns-4 : tie.Need-returns-4
 returns-4 c = (received-other _ _ _ _ (c .match .keys4), search needs, search needs)

@@ -1,5 +1,5 @@
 -- `read_tests::not_setup` meets its contract. Assumes nothing.
-use Rattle.read_tests.specs.Read.{notSetup, waiting}
+use Rattle.read_tests.specs.Read.{notSetup}
 use borrow.Author.Needs.{needs}
 use Rattle.read_tests.proofs.not_setup.Statement.{statement}
 use Rattle.read_tests.proofs.not_setup.Tie as tie
@@ -11,7 +11,7 @@ not-setup-in-requires : tie.Need-not-setup-in-requires
 not-setup-in-requires c κs = search needs
 
 returns : tie.Need-returns
-unfolding notSetup waiting
+unfolding notSetup
 returns c = cc
 
 pub not-setup-spec : {M : Type 1} → statement M

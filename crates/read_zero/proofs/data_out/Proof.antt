@@ -1,11 +1,10 @@
 -- `read_zero::data_out` meets its contract. Assumes nothing.
-use Rattle.read_zero.proofs.Laws.{out-short, out-full}
+use Rattle.stores.specs.Stores.{log}
+use denote.Ref.{now}
+use Rattle.read_zero.proofs.Laws.{left-by, out-short, out-full}
 use borrow.Author.Needs.{needs}
 use Rattle.read_zero.proofs.data_out.Statement.{statement}
 use Rattle.read_zero.proofs.data_out.Tie as tie
-
-rx-size-requires : tie.Need-rx-size-requires
-rx-size-requires c κs = search needs
 
 set-state-requires : tie.Need-set-state-requires
 set-state-requires c κs = search needs
@@ -17,22 +16,15 @@ same-length : tie.Need-same-length
 same-length c = search needs
 
 returns : tie.Need-returns
-returns c = search (out-short, needs)
+returns c = let d = c .before .before .before .before .before .before in let a = d .before .before .args in out-short (a .c) (a .f) (log (now (a .w)) (now (a .list)) (a .n)) (a .count) (a .size) (d .if1 .taken) (c .before .before .before .set-state .ensures) (c .before .before .end .ensures)
 
-finish-requires : tie.Need-finish-requires
-finish-requires c κs = search needs
+leave-requires : tie.Need-leave-requires
+leave-requires c κs = search needs
 
 returns-2 : tie.Need-returns-2
-returns-2 c = search (out-full, needs)
+returns-2 c = let a = c .before .before .before .args in out-full (a .c) (a .f) (log (now (a .w)) (now (a .list)) (a .n)) (a .count) (a .size) (c .before .if1 .left) (left-by _ _ (c .leave .ensures))
 
 pub data-out-spec : {M : Type 1} → statement M
 data-out-spec =
     tie.close
-    (tie.spec
-    rx-size-requires
-    set-state-requires
-    end-requires
-    same-length
-    returns
-    finish-requires
-    returns-2)
+    (tie.spec set-state-requires end-requires same-length returns leave-requires returns-2)

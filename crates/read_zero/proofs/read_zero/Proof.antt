@@ -1,4 +1,6 @@
 -- `read_zero::read_zero` meets its contract. Assumes nothing.
+use Rattle.stores.specs.Stores.{log}
+use denote.Ref.{now}
 use Rattle.read_zero.proofs.Laws.{zero-by}
 use borrow.Author.Needs.{needs}
 use Rattle.read_zero.proofs.read_zero.Statement.{statement}
@@ -14,7 +16,7 @@ same-length : tie.Need-same-length
 same-length c = search needs
 
 returns : tie.Need-returns
-returns c = search (zero-by, needs)
+returns c = let a = c .before .before .before .before .before .before .before .before .before .before .before .before .args in zero-by (a .c) (a .f) (log (now (a .w)) (now (a .list)) (a .n)) (now (a .buf)) (a .count) (a .size) (c .before .before .before .before .before .before .before .modify-csr0l .ensures .0) (c .before .before .zero-by .ensures)
 
 pub read-zero-spec : {M : Type 1} → statement M
 read-zero-spec = tie.close (tie.spec modify-csr0l-requires zero-by-requires same-length returns)

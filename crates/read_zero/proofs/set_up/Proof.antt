@@ -1,5 +1,7 @@
 -- `read_zero::set_up` meets its contract. Assumes nothing.
-use Rattle.read_zero.proofs.Laws.{set-up-none, set-up-some}
+use Rattle.stores.specs.Stores.{log}
+use denote.Ref.{now}
+use Rattle.read_zero.proofs.Laws.{left-by, set-up-none, set-up-some}
 use borrow.Author.Needs.{needs}
 use Rattle.read_zero.proofs.set_up.Statement.{statement}
 use Rattle.read_zero.proofs.set_up.Tie as tie
@@ -20,19 +22,16 @@ same-length : tie.Need-same-length
 same-length c = search needs
 
 returns : tie.Need-returns
-returns c = search (set-up-none, needs)
+returns c = let d = c .before .before .before .before .before .before in let a = d .before .before .before .before .before .args in set-up-none (a .c) (a .f) (log (now (a .w)) (now (a .list)) (a .n)) (now (a .buf)) (d .before .w-length .ensures) (d .if1 .taken) (c .before .before .before .set-state .ensures) (c .before .before .end .ensures)
 
 after-setup-requires : tie.Need-after-setup-requires
 after-setup-requires c κs = search needs
 
-with-control-requires : tie.Need-with-control-requires
-with-control-requires c κs = search needs
-
-finish-requires : tie.Need-finish-requires
-finish-requires c κs = search needs
+leave-requires : tie.Need-leave-requires
+leave-requires c κs = search needs
 
 returns-2 : tie.Need-returns-2
-returns-2 c = search (set-up-some, needs)
+returns-2 c = let d = c .before .before in let a = d .before .before .before .before .before .args in set-up-some (a .c) (a .f) (log (now (a .w)) (now (a .list)) (a .n)) (now (a .buf)) (d .before .w-length .ensures) (d .if1 .left) (d .before .before .way-in .ensures) (c .before .after-setup .ensures) (left-by _ _ (c .leave .ensures))
 
 pub set-up-spec : {M : Type 1} → statement M
 set-up-spec =
@@ -45,6 +44,5 @@ set-up-spec =
     same-length
     returns
     after-setup-requires
-    with-control-requires
-    finish-requires
+    leave-requires
     returns-2)

@@ -1,16 +1,21 @@
-use native.Mathlib.Omega.{arith}
 use Rattle.board.specs.Boards.{total-fits}
-use Rattle.record.specs.Record.{areaOf, needOf}
+use native.Mathlib.Omega.{arith}
+use Rattle.record.specs.Record.{areaIn, needIn}
 use borrow.Author.Needs.{needs}
 use Rattle.record.proofs.area.Statement.{statement}
 use Rattle.record.proofs.area.Tie as tie
+use Rattle.record.proofs.area.Reads as reads
+use Rattle.record.proofs.area.Lts as lts
+use Rattle.board.proofs.area.Reads as area-reads
 
+-- src/lib.rt:106:5
 area-requires : tie.Need-area-requires
 area-requires c κs = search needs
 
+-- src/lib.rt:103:1
 returns : tie.Need-returns
-unfolding areaOf needOf
-returns c = (c .area .ensures .0, c .area .ensures .1, omega (arith, total-fits (c .before .before .args .k .regs .board), c .area .ensures .1))
+unfolding areaIn needIn
+returns c = (c .area .ensures .0, c .area .ensures .1, omega (arith, total-fits (c .before .args .b), c .area .ensures .1))
 
 pub area-spec : {M : Type 1} → statement M
 area-spec = tie.close (tie.spec area-requires returns)

@@ -1,14 +1,13 @@
-use Rattle.regs.specs.Registers.{freshRegs}
-use borrow.Author.Needs.{needs}
+use Rattle.regs.specs.Registers.{freshRegs, freshFile}
 use Rattle.regs.proofs.fresh.Statement.{statement}
 use Rattle.regs.proofs.fresh.Tie as tie
+use Rattle.regs.proofs.fresh.Reads as reads
+use Rattle.regs.proofs.fresh.Lts as lts
 
-no-side-requires : tie.Need-no-side-requires
-no-side-requires c κs = search needs
-
+-- src/lib.rt:52:1
 returns : tie.Need-returns
-unfolding freshRegs
+unfolding freshRegs freshFile
 returns c = cc
 
 pub fresh-spec : {M : Type 1} → statement M
-fresh-spec = tie.close (tie.spec no-side-requires returns)
+fresh-spec = tie.close (tie.spec returns)

@@ -1,39 +1,41 @@
-use lib.ListN.{length}
-use mathlib.Core.Path.{_≡_, sym, _∙_}
+use Rattle.regs.specs.Registers.{sideIn}
+use Rattle.regs.proofs.Sides.{there, past}
 use native.Mathlib.Omega.{arith}
-use Rattle.regs.proofs.Sides.{past}
-use Rattle.laws.proofs.Lists.{length-of}
-use Rattle.regs.specs.Registers.{sideAt}
+use mathlib.Core.Path.{ap, sym, _∙_}
 use borrow.Author.Needs.{needs}
 use Rattle.regs.proofs.side_at.Statement.{statement}
 use Rattle.regs.proofs.side_at.Tie as tie
+use Rattle.regs.proofs.side_at.Reads as reads
+use Rattle.regs.proofs.side_at.Lts as lts
+use Rattle.board.proofs.place_of.Reads as place-of-reads
+use Rattle.csr.proofs.no_side.Reads as no-side-reads
+use Rattle.regs.proofs.side_in.Reads as side-in-reads
 
-mul-side-of : tie.Need-mul-side-of
-mul-side-of c = search needs
+-- src/lib.rt:103:43
+cast-place-of : tie.Need-cast-place-of
+cast-place-of c = search needs
 
-element-copy-out-side-of : tie.Need-element-copy-out-side-of
-element-copy-out-side-of c = search needs
+-- src/lib.rt:103:27
+place-of-requires : tie.Need-place-of-requires
+place-of-requires c κs = search needs
 
-side-of-requires : tie.Need-side-of-requires
-side-of-requires c κs = search needs
+-- src/lib.rt:103:9
+side-in-requires : tie.Need-side-in-requires
+side-in-requires c κs = search needs
 
+-- src/lib.rt:103:9
 returns : tie.Need-returns
-unfolding sideAt
-returns c = c .side-of .ensures
+returns c = c .side-in .ensures ∙ ap (sideIn _) (c .before .place-of .ensures .0) ∙ sym (there _ _ _ (c .before .before .if1 .taken))
 
+-- src/lib.rt:105:5
 no-side-requires : tie.Need-no-side-requires
 no-side-requires c κs = search needs
 
+-- src/lib.rt:99:1
 returns-2 : tie.Need-returns-2
-returns-2 c = let six : length (c .before .before .args .t1 .eps) ≡ 6 = search (needs, length-of) in c .no-side .ensures ∙ sym (past (c .before .before .args .t1) (c .before .before .args .e) (c .before .before .args .d) (omega arith))
+returns-2 c = c .no-side .ensures ∙ sym (past _ _ _ (omega arith))
 
 pub side-at-spec : {M : Type 1} → statement M
 side-at-spec =
     tie.close
-    (tie.spec
-    mul-side-of
-    element-copy-out-side-of
-    side-of-requires
-    returns
-    no-side-requires
-    returns-2)
+    (tie.spec cast-place-of place-of-requires side-in-requires returns no-side-requires returns-2)

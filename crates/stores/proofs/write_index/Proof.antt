@@ -1,19 +1,28 @@
-use Rattle.stores.proofs.Promises.{index-halves}
+use Rattle.regs.specs.Registers.{withIndex}
+use Rattle.stores.specs.Stores.{writeIndex}
 use borrow.Author.Needs.{needs}
 use Rattle.stores.proofs.write_index.Statement.{statement}
 use Rattle.stores.proofs.write_index.Tie as tie
+use Rattle.stores.proofs.write_index.Reads as reads
+use Rattle.stores.proofs.write_index.Lts as lts
+use Rattle.store_list.proofs.put.Reads as put-reads
 
-select-requires : tie.Need-select-requires
-select-requires c κs = search needs
+-- src/lib.rt:44:5
+element-write-w : tie.Need-element-write-w
+element-write-w c = search needs
 
-note-select-requires : tie.Need-note-select-requires
-note-select-requires c κs = search needs
+-- src/lib.rt:45:5
+put-requires : tie.Need-put-requires
+put-requires c κs = search needs
 
+-- src/lib.rt:40:1
 same-length : tie.Need-same-length
 same-length c = search needs
 
+-- src/lib.rt:40:1
 returns : tie.Need-returns
-returns c = (index-halves _ _ _ _ (c .before .before .before .before .select .ensures) (c .before .before .note-select .ensures .1) (c .before .before .note-select .ensures .0), c .before .before .note-select .ensures .0)
+unfolding writeIndex withIndex
+returns c = (cc, cc)
 
 pub write-index-spec : {M : Type 1} → statement M
-write-index-spec = tie.close (tie.spec select-requires note-select-requires same-length returns)
+write-index-spec = tie.close (tie.spec element-write-w put-requires same-length returns)

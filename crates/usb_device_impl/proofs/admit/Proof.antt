@@ -1,5 +1,6 @@
 -- `usb_device_impl::admit` meets its contract. Assumes nothing.
-use Rattle.record.specs.Record.{recordSound}
+use denote.Ref.{now}
+use Rattle.record.specs.Record.{passes}
 use Rattle.usb_device_impl.proofs.Laws.{room}
 use borrow.Author.Needs.{needs}
 use Rattle.usb_device_impl.proofs.admit.Statement.{statement}
@@ -9,7 +10,7 @@ admit-requires : tie.Need-admit-requires
 admit-requires c κs = search needs
 
 returns : tie.Need-returns
-returns c = (c .admit .ensures, room (c .before .args .numbers) (recordSound (c .before .args .k)) (c .before .args .beyond) (c .admit .ensures))
+returns c = (c .admit .ensures, room (c .before .args .numbers) (passes (c .before .args .b) (now (c .before .args .w)) (c .before .args .f)) (c .before .args .beyond) (c .admit .ensures))
 
 pub admit-spec : {M : Type 1} → statement M
 admit-spec = tie.close (tie.spec admit-requires returns)

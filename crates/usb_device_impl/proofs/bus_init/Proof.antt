@@ -1,50 +1,20 @@
 -- `usb_device_impl::bus_init` meets its contract. Assumes nothing.
-use Rattle.usb_device_impl.proofs.Laws.{refusing, doing}
-use Rattle.usb_device_impl.specs.Calls.{busInitCall}
-use native.Mathlib.Omega.{arith}
+use Rattle.usb_device_impl.proofs.Laws.{bus-initialised}
 use borrow.Author.Needs.{needs}
 use Rattle.usb_device_impl.proofs.bus_init.Statement.{statement}
 use Rattle.usb_device_impl.proofs.bus_init.Tie as tie
 
-admit-requires : tie.Need-admit-requires
-admit-requires c κs = search needs
-
-enum-known-t : tie.Need-enum-known-t
-enum-known-t c = search needs
-
-refuse-requires : tie.Need-refuse-requires
-refuse-requires c κs = search needs
-
-enum-told : tie.Need-enum-told
-enum-told c = search needs
-
-bus-init-requires : tie.Need-bus-init-requires
-bus-init-requires c κs = omega (arith, c .before .before .before .before .before .admit .ensures .1 (c .before .before .before .enum-told .given .1))
+run-bus-init-requires : tie.Need-run-bus-init-requires
+run-bus-init-requires c κs = search needs
 
 finish-requires : tie.Need-finish-requires
 finish-requires c κs = search needs
 
-returns : tie.Need-returns
-unfolding busInitCall
-returns c = search (refusing, needs)
-
 same-length : tie.Need-same-length
 same-length c = search needs
 
-returns-2 : tie.Need-returns-2
-unfolding busInitCall
-returns-2 c = search (doing, needs)
+returns : tie.Need-returns
+returns c = search (bus-initialised, needs)
 
 pub bus-init-spec : {M : Type 1} → statement M
-bus-init-spec =
-    tie.close
-    (tie.spec
-    admit-requires
-    enum-known-t
-    refuse-requires
-    enum-told
-    bus-init-requires
-    finish-requires
-    returns
-    same-length
-    returns-2)
+bus-init-spec = tie.close (tie.spec run-bus-init-requires finish-requires same-length returns)

@@ -1,50 +1,20 @@
 -- `usb_device_impl::enable` meets its contract. Assumes nothing.
-use Rattle.usb_device_impl.specs.Calls.{enableCall}
-use Rattle.usb_device_impl.proofs.Laws.{refusing, doing}
-use native.Mathlib.Omega.{arith}
+use Rattle.usb_device_impl.proofs.Laws.{enabled}
 use borrow.Author.Needs.{needs}
 use Rattle.usb_device_impl.proofs.enable.Statement.{statement}
 use Rattle.usb_device_impl.proofs.enable.Tie as tie
 
-admit-requires : tie.Need-admit-requires
-admit-requires c κs = search needs
-
-enum-known-t : tie.Need-enum-known-t
-enum-known-t c = search needs
-
-refuse-requires : tie.Need-refuse-requires
-refuse-requires c κs = search needs
-
-enum-told : tie.Need-enum-told
-enum-told c = search needs
-
-write-faddr-requires : tie.Need-write-faddr-requires
-write-faddr-requires c κs = omega (arith, c .before .before .before .before .before .admit .ensures .1 (c .before .before .before .enum-told .given .1))
+run-enable-requires : tie.Need-run-enable-requires
+run-enable-requires c κs = search needs
 
 finish-requires : tie.Need-finish-requires
 finish-requires c κs = search needs
 
-returns : tie.Need-returns
-unfolding enableCall
-returns c = search (refusing, needs)
-
 same-length : tie.Need-same-length
 same-length c = search needs
 
-returns-2 : tie.Need-returns-2
-unfolding enableCall
-returns-2 c = search (doing, needs)
+returns : tie.Need-returns
+returns c = search (enabled, needs)
 
 pub enable-spec : {M : Type 1} → statement M
-enable-spec =
-    tie.close
-    (tie.spec
-    admit-requires
-    enum-known-t
-    refuse-requires
-    enum-told
-    write-faddr-requires
-    finish-requires
-    returns
-    same-length
-    returns-2)
+enable-spec = tie.close (tie.spec run-enable-requires finish-requires same-length returns)

@@ -14,7 +14,7 @@ same-length : tie.Need-same-length
 same-length c = search needs
 
 returns : tie.Need-returns
-returns c = accepted-on _ _ (c .before .before .before .before .before .before .before .accept .ensures .0) (c .before .before .walk-on .ensures)
+returns c = accepted-on _ (c .before .before .before .before .before .before .before .accept .ensures .0) (c .before .before .walk-on .ensures)
 
 pub accept-on-spec : {M : Type 1} → statement M
 accept-on-spec = tie.close (tie.spec accept-requires walk-on-requires same-length returns)

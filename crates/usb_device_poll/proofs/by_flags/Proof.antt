@@ -11,19 +11,22 @@ answer-requires : tie.Need-answer-requires
 answer-requires c κs = search needs
 
 returns : tie.Need-returns
-returns c = resets _ _ (c .before .before .reset-down .ensures) (c .before .if1 .taken) (c .answer .ensures)
+returns c = resets _ _ _ (c .before .before .if1 .taken) (c .before .reset-down .ensures) (c .answer .ensures)
 
 answer-requires-2 : tie.Need-answer-requires-2
 answer-requires-2 c κs = search needs
 
 returns-2 : tie.Need-returns-2
-returns-2 c = resumes _ _ (c .before .before .if1 .left) (c .before .if2 .taken) (c .answer2 .ensures)
+returns-2 c = resumes _ _ _ (c .before .before .if1 .left) (c .before .if2 .taken) (c .answer2 .ensures)
+
+reset-down-requires-2 : tie.Need-reset-down-requires-2
+reset-down-requires-2 c κs = search needs
 
 answer-requires-3 : tie.Need-answer-requires-3
 answer-requires-3 c κs = search needs
 
 returns-3 : tie.Need-returns-3
-returns-3 c = suspends _ _ (c .before .before .before .before .reset-down .ensures) (c .before .before .before .if1 .left) (c .before .before .if2 .left) (c .before .if3 .taken) (c .answer3 .ensures)
+returns-3 c = suspends _ _ _ (c .before .before .before .before .if1 .left) (c .before .before .before .if2 .left) (c .before .before .if3 .taken) (c .before .reset-down2 .ensures) (c .answer3 .ensures)
 
 round-requires : tie.Need-round-requires
 round-requires c κs = search needs
@@ -32,7 +35,7 @@ same-length : tie.Need-same-length
 same-length c = search needs
 
 returns-4 : tie.Need-returns-4
-returns-4 c = goes-round _ _ (c .before .before .before .before .before .before .if1 .left) (c .before .before .before .before .before .if2 .left) (c .before .before .before .before .if3 .left) (c .before .before .round .ensures)
+returns-4 c = goes-round _ _ _ (c .before .before .before .before .before .before .before .if1 .left) (c .before .before .before .before .before .before .if2 .left) (c .before .before .before .before .before .if3 .left) (c .before .before .round .ensures)
 
 pub by-flags-spec : {M : Type 1} → statement M
 by-flags-spec =
@@ -43,6 +46,7 @@ by-flags-spec =
     returns
     answer-requires-2
     returns-2
+    reset-down-requires-2
     answer-requires-3
     returns-3
     round-requires

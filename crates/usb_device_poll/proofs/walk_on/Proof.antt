@@ -17,7 +17,7 @@ same-length : tie.Need-same-length
 same-length c = search needs
 
 returns : tie.Need-returns
-returns c = walked-on _ _ (c .before .before .before .before .walk .ensures) (c .before .tell .ensures) (c .answer .ensures)
+returns c = walked-on _ (c .before .before .before .before .walk .ensures) (c .before .tell .ensures) (c .answer .ensures)
 
 pub walk-on-spec : {M : Type 1} → statement M
 walk-on-spec = tie.close (tie.spec walk-requires tell-requires answer-requires same-length returns)

@@ -1,6 +1,6 @@
 -- `usb_device_read::fetch` meets its contract. Assumes nothing.
-use Rattle.read_tests.specs.Read.{waiting}
-use Rattle.usb_device_read.proofs.Laws.{packet-fits, copied-by}
+use denote.Ref.{now}
+use Rattle.usb_device_read.proofs.Laws.{area-fits, copied-by}
 use borrow.Author.Needs.{needs}
 use Rattle.usb_device_read.proofs.fetch.Statement.{statement}
 use Rattle.usb_device_read.proofs.fetch.Tie as tie
@@ -15,14 +15,13 @@ area-requires : tie.Need-area-requires
 area-requires c κs = search needs
 
 take-bytes-requires : tie.Need-take-bytes-requires
-take-bytes-requires c κs = (search (packet-fits, needs), search needs)
+take-bytes-requires c κs = let d = c .before .before .before .before .before in (area-fits (d .args .b) (d .args .ep) (c .before .area .ensures .0) (c .before .before .rx-count .ensures) (d .pre .0), search needs)
 
 same-length : tie.Need-same-length
 same-length c = search needs
 
 returns : tie.Need-returns
-unfolding waiting
-returns c = (search needs, search (copied-by, needs))
+returns c = let a = c .before .before .before .before .before .before .before .before .args in (c .before .before .before .before .before .rx-count .ensures, copied-by (a .b) (a .ep) (c .before .before .before .before .area .ensures .0) _ (now (a .buf)) (now (a .fifo)) (c .before .before .take-bytes .ensures))
 
 pub fetch-spec : {M : Type 1} → statement M
 fetch-spec =

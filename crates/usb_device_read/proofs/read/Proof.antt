@@ -1,27 +1,19 @@
 -- `usb_device_read::read` meets its contract. Assumes nothing.
-use Rattle.usb_device_read.proofs.Verdicts.{clear-fits, blocked-fits}
-use Rattle.usb_device_read.proofs.Laws.{call-clear, call-blocked, call-refused}
+use Rattle.usb_device_read.specs.Read.{outcome, readCall}
+use Rattle.read_zero.specs.Read.{rxSize}
+use mathlib.Core.Path.{ap}
 use borrow.Author.Needs.{needs}
 use Rattle.usb_device_read.proofs.read.Statement.{statement}
 use Rattle.usb_device_read.proofs.read.Tie as tie
 
-refusal-requires : tie.Need-refusal-requires
-refusal-requires c κs = search needs
+array-copy-out-zero : tie.Need-array-copy-out-zero
+array-copy-out-zero c = search needs
 
-enum-told : tie.Need-enum-told
-enum-told c = search needs
+cast-read-by : tie.Need-cast-read-by
+cast-read-by c = search needs
 
-take-requires : tie.Need-take-requires
-take-requires c κs = clear-fits _ _ _ _ _ (c .before .before .before .before .refusal .ensures) (c .before .before .enum-told .given .1)
-
-enum-told-2 : tie.Need-enum-told-2
-enum-told-2 c = search needs
-
-block-requires : tie.Need-block-requires
-block-requires c κs = search (blocked-fits, needs)
-
-enum-known-v : tie.Need-enum-known-v
-enum-known-v c = search needs
+read-by-requires : tie.Need-read-by-requires
+read-by-requires c κs = search needs
 
 same-length : tie.Need-same-length
 same-length c = search needs
@@ -30,30 +22,10 @@ same-length-2 : tie.Need-same-length-2
 same-length-2 c = search needs
 
 returns : tie.Need-returns
-returns c = search (call-clear, needs)
-
-same-length-3 : tie.Need-same-length-3
-same-length-3 c = search needs
-
-returns-2 : tie.Need-returns-2
-returns-2 c = search (call-blocked, needs)
-
-returns-3 : tie.Need-returns-3
-returns-3 c = search (call-refused, needs)
+unfolding readCall rxSize
+returns c = ap (outcome (c .before .before .before .before .before .before .before .before .before .before .before .before .before .before .before .before .before .before .before .before .args .k)) (c .before .before .before .before .before .before .before .read-by .ensures)
 
 pub read-spec : {M : Type 1} → statement M
 read-spec =
     tie.close
-    (tie.spec
-    refusal-requires
-    enum-told
-    take-requires
-    enum-told-2
-    block-requires
-    enum-known-v
-    same-length
-    same-length-2
-    returns
-    same-length-3
-    returns-2
-    returns-3)
+    (tie.spec array-copy-out-zero cast-read-by read-by-requires same-length same-length-2 returns)

@@ -1,17 +1,17 @@
 -- `usb_device_reset::enable_below` meets its contract. Assumes nothing.
 use Prim.Native.Nat.{_-_}
+use Rattle.stores.specs.Stores.{log}
+use Rattle.usb_device_reset.proofs.Walk.{Walking, begin, turn, end}
 use native.Mathlib.Omega.{arith}
 use borrow.Author.Needs.{needs}
-use Rattle.stores.specs.Stores.{logOf}
-use Rattle.usb_device_reset.proofs.Walk.{Walking, begin, turn, end}
 use Rattle.usb_device_reset.proofs.enable_below.Statement.{statement}
 use Rattle.usb_device_reset.proofs.enable_below.Tie as tie
 
 abbrev Inv-loop : tie.InvT-loop
-Inv-loop list₀ n count endpoints o₀ index₀ list o index = Walking endpoints (logOf o₀ list₀) count (logOf o list) index
+Inv-loop w₀ list₀ n count endpoints m₀ index₀ w list m index = Walking endpoints (log w₀ list₀ m₀) count (log w list m) index
 
 abbrev μ-loop : tie.MeasureT-loop
-μ-loop list₀ n count endpoints o₀ index₀ list o index = count - index
+μ-loop w₀ list₀ n count endpoints m₀ index₀ w list m index = count - index
 
 loop-holds : tie.Need-loop-holds Inv-loop μ-loop
 loop-holds c = begin _ _ _
@@ -26,7 +26,7 @@ array-copy-out-ep : tie.Need-array-copy-out-ep Inv-loop μ-loop
 array-copy-out-ep c = search needs
 
 enable-used-requires : tie.Need-enable-used-requires Inv-loop μ-loop
-enable-used-requires c κs = (omega (arith, c .before .before .before .before .before .pre .0), omega (arith, c .before .before .before .before .before .pre .0, c .before .before .before .before .before .pre .1, c .before .before .before .loop .inv .few, c .before .before .before .loop .inv .long))
+enable-used-requires c κs = (omega (arith, c .before .before .before .before .before .before .pre .0), omega (arith, c .before .before .before .before .before .before .pre .0, c .before .before .before .before .before .before .pre .1, c .before .before .before .before .loop .inv .few, c .before .before .before .before .loop .inv .long))
 
 add-index : tie.Need-add-index Inv-loop μ-loop
 add-index c = search needs
@@ -35,7 +35,7 @@ loop-less : tie.Need-loop-less Inv-loop μ-loop
 loop-less c = omega arith
 
 loop-again : tie.Need-loop-again Inv-loop μ-loop
-loop-again c = turn _ _ _ _ _ _ (c .before .before .before .before .before .before .loop .inv) (c .before .before .before .before .before .loop-test .taken) (c .before .before .enable-used .ensures .0) (c .before .before .enable-used .ensures .1) (omega arith)
+loop-again c = turn _ _ _ _ _ _ (c .before .before .before .before .before .before .before .loop .inv) (c .before .before .before .before .before .before .loop-test .taken) (c .before .before .enable-used .ensures .0) (c .before .before .enable-used .ensures .1) (omega arith)
 
 same-length : tie.Need-same-length Inv-loop μ-loop
 same-length c = c .before .loop .inv .long

@@ -1,53 +1,20 @@
 -- `usb_device_reset::reset` meets its contract. Assumes nothing.
-use Rattle.usb_device_reset.specs.Calls.{resetCall}
-use Rattle.usb_device_impl.proofs.Laws.{refusing, doing-after}
+use Rattle.usb_device_reset.proofs.Laws.{reset-whole}
 use borrow.Author.Needs.{needs}
 use Rattle.usb_device_reset.proofs.reset.Statement.{statement}
 use Rattle.usb_device_reset.proofs.reset.Tie as tie
 
-admit-requires : tie.Need-admit-requires
-admit-requires c κs = search needs
-
-enum-known-t : tie.Need-enum-known-t
-enum-known-t c = search needs
-
-refuse-requires : tie.Need-refuse-requires
-refuse-requires c κs = search needs
-
-enum-told : tie.Need-enum-told
-enum-told c = search needs
-
-reset-stores-requires : tie.Need-reset-stores-requires
-reset-stores-requires c κs = c .before .before .before .before .admit .ensures .1 (c .before .before .enum-told .given .1)
-
-idle-requires : tie.Need-idle-requires
-idle-requires c κs = search needs
+run-reset-requires : tie.Need-run-reset-requires
+run-reset-requires c κs = search needs
 
 finish-requires : tie.Need-finish-requires
 finish-requires c κs = search needs
 
-returns : tie.Need-returns
-unfolding resetCall
-returns c = search (refusing, needs)
-
 same-length : tie.Need-same-length
 same-length c = search needs
 
-returns-2 : tie.Need-returns-2
-unfolding resetCall
-returns-2 c = search (doing-after, needs)
+returns : tie.Need-returns
+returns c = search (reset-whole, needs)
 
 pub reset-spec : {M : Type 1} → statement M
-reset-spec =
-    tie.close
-    (tie.spec
-    admit-requires
-    enum-known-t
-    refuse-requires
-    enum-told
-    reset-stores-requires
-    idle-requires
-    finish-requires
-    returns
-    same-length
-    returns-2)
+reset-spec = tie.close (tie.spec run-reset-requires finish-requires same-length returns)

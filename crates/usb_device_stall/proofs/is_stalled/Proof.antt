@@ -1,46 +1,17 @@
 -- `usb_device_stall::is_stalled` meets its contract. Assumes nothing.
-use Rattle.usb_device_stall.specs.Calls.{isStalledCall}
-use Rattle.usb_device_stall.proofs.Laws.{not-telling, telling}
-use native.Mathlib.Omega.{arith}
+use Rattle.usb_device_stall.proofs.Laws.{asked-whole}
 use borrow.Author.Needs.{needs}
 use Rattle.usb_device_stall.proofs.is_stalled.Statement.{statement}
 use Rattle.usb_device_stall.proofs.is_stalled.Tie as tie
 
-admit-at-requires : tie.Need-admit-at-requires
-admit-at-requires c κs = search needs
-
-enum-known-t : tie.Need-enum-known-t
-enum-known-t c = search needs
-
-enum-told : tie.Need-enum-told
-enum-told c = search needs
-
-ep-is-stalled-requires : tie.Need-ep-is-stalled-requires
-ep-is-stalled-requires c κs = omega (arith, c .before .before .before .before .admit-at .ensures .1 (c .before .before .enum-told .given .1))
-
-tell-requires : tie.Need-tell-requires
-tell-requires c κs = search needs
-
-returns : tie.Need-returns
-unfolding isStalledCall
-returns c = search (not-telling, needs)
+run-is-stalled-requires : tie.Need-run-is-stalled-requires
+run-is-stalled-requires c κs = search needs
 
 same-length : tie.Need-same-length
 same-length c = search needs
 
-returns-2 : tie.Need-returns-2
-unfolding isStalledCall
-returns-2 c = search (telling, needs)
+returns : tie.Need-returns
+returns c = search (asked-whole, needs)
 
 pub is-stalled-spec : {M : Type 1} → statement M
-is-stalled-spec =
-    tie.close
-    (tie.spec
-    admit-at-requires
-    enum-known-t
-    enum-told
-    ep-is-stalled-requires
-    tell-requires
-    returns
-    same-length
-    returns-2)
+is-stalled-spec = tie.close (tie.spec run-is-stalled-requires same-length returns)

@@ -26,7 +26,7 @@ same-length-2 : tie.Need-same-length-2
 same-length-2 c = search needs
 
 returns : tie.Need-returns
-returns c = (search (loaded-by, needs), search (at-area, needs), search needs, fits-cast _ _ (c .before .before .before .before .before .before .before .before .area .ensures .0) (c .before .before .before .before .before .before .before .before .before .before .before .before .before .before .before .before .before .pre .0) (c .before .before .before .before .before .before .before .before .area .ensures .2))
+returns c = (search (loaded-by, needs), search (at-area, needs), search needs, search (fits-cast, needs))
 
 pub load-spec : {M : Type 1} → statement M
 load-spec =

@@ -1,6 +1,5 @@
 -- `usb_device_write::send` meets its contract. Assumes nothing.
-use mathlib.Core.Path.{refl}
-use Rattle.usb_device_write.proofs.Laws.{zero-taken, other-taken}
+use Rattle.usb_device_write.proofs.Laws.{zero-sent, other-sent}
 use borrow.Author.Needs.{needs}
 use Rattle.usb_device_write.proofs.send.Statement.{statement}
 use Rattle.usb_device_write.proofs.send.Tie as tie
@@ -18,7 +17,7 @@ same-length-2 : tie.Need-same-length-2
 same-length-2 c = search needs
 
 returns : tie.Need-returns
-returns c = search (zero-taken, needs)
+returns c = (search (zero-sent, needs), search needs)
 
 send-other-requires : tie.Need-send-other-requires
 send-other-requires c κs = search needs
@@ -30,7 +29,7 @@ same-length-4 : tie.Need-same-length-4
 same-length-4 c = search needs
 
 returns-2 : tie.Need-returns-2
-returns-2 c = other-taken _ _ _ _ _ refl (c .before .before .before .before .send-other .ensures .1) (c .before .before .before .before .before .before .before .if1 .left) (c .before .before .before .before .send-other .ensures .0)
+returns-2 c = (search (other-sent, needs), search needs)
 
 pub send-spec : {M : Type 1} → statement M
 send-spec =

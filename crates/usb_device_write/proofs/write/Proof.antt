@@ -1,27 +1,14 @@
 -- `usb_device_write::write` meets its contract. Assumes nothing.
-use Rattle.usb_device_write.proofs.Verdicts.{clear-fits, blocked-fits}
-use Rattle.usb_device_write.proofs.Laws.{call-clear, call-blocked, call-refused}
+use Rattle.usb_device_write.proofs.Laws.{call-whole}
 use borrow.Author.Needs.{needs}
 use Rattle.usb_device_write.proofs.write.Statement.{statement}
 use Rattle.usb_device_write.proofs.write.Tie as tie
 
-refusal-requires : tie.Need-refusal-requires
-refusal-requires c κs = search needs
+tx-size-requires : tie.Need-tx-size-requires
+tx-size-requires c κs = search needs
 
-enum-told : tie.Need-enum-told
-enum-told c = search needs
-
-send-requires : tie.Need-send-requires
-send-requires c κs = clear-fits _ _ _ _ _ (c .before .before .before .before .refusal .ensures) (c .before .before .enum-told .given .1)
-
-enum-told-2 : tie.Need-enum-told-2
-enum-told-2 c = search needs
-
-block-requires : tie.Need-block-requires
-block-requires c κs = search (blocked-fits, needs)
-
-enum-known-v : tie.Need-enum-known-v
-enum-known-v c = search needs
+write-by-requires : tie.Need-write-by-requires
+write-by-requires c κs = search needs
 
 same-length : tie.Need-same-length
 same-length c = search needs
@@ -30,30 +17,8 @@ same-length-2 : tie.Need-same-length-2
 same-length-2 c = search needs
 
 returns : tie.Need-returns
-returns c = search (call-clear, needs)
-
-same-length-3 : tie.Need-same-length-3
-same-length-3 c = search needs
-
-returns-2 : tie.Need-returns-2
-returns-2 c = search (call-blocked, needs)
-
-returns-3 : tie.Need-returns-3
-returns-3 c = search (call-refused, needs)
+returns c = call-whole _ _ _ _ _ (c .before .before .before .before .before .before .before .before .before .before .before .tx-size .ensures) (c .before .before .before .before .before .before .before .write-by .ensures)
 
 pub write-spec : {M : Type 1} → statement M
 write-spec =
-    tie.close
-    (tie.spec
-    refusal-requires
-    enum-told
-    send-requires
-    enum-told-2
-    block-requires
-    enum-known-v
-    same-length
-    same-length-2
-    returns
-    same-length-3
-    returns-2
-    returns-3)
+    tie.close (tie.spec tx-size-requires write-by-requires same-length same-length-2 returns)

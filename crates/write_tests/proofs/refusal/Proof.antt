@@ -1,5 +1,5 @@
 -- `write_tests::refusal` meets its contract. Assumes nothing.
-use Rattle.write_tests.specs.Write.{tests}
+use Rattle.write_tests.proofs.Laws.{tests-clear, tests-refused}
 use borrow.Author.Needs.{needs}
 use Rattle.write_tests.proofs.refusal.Statement.{statement}
 use Rattle.write_tests.proofs.refusal.Tie as tie
@@ -13,15 +13,20 @@ endpoints-requires c κs = search needs
 admit-requires : tie.Need-admit-requires
 admit-requires c κs = search needs
 
+enum-told : tie.Need-enum-told
+enum-told c = search needs
+
 own-tests-at-requires : tie.Need-own-tests-at-requires
 own-tests-at-requires c κs = search needs
 
-tests-by-requires : tie.Need-tests-by-requires
-tests-by-requires c κs = search needs
+enum-known-a : tie.Need-enum-known-a
+enum-known-a c = search needs
 
 returns : tie.Need-returns
-unfolding tests
-returns c = cc
+returns c = search (tests-clear, needs)
+
+returns-2 : tie.Need-returns-2
+returns-2 c = search (tests-refused, needs)
 
 pub refusal-spec : {M : Type 1} → statement M
 refusal-spec =
@@ -30,6 +35,8 @@ refusal-spec =
     is-short-requires
     endpoints-requires
     admit-requires
+    enum-told
     own-tests-at-requires
-    tests-by-requires
-    returns)
+    enum-known-a
+    returns
+    returns-2)

@@ -22,9 +22,6 @@ same-length c = search needs
 returns : tie.Need-returns
 returns c = search (all-sent, needs)
 
-tx-size-requires : tie.Need-tx-size-requires
-tx-size-requires c κs = search needs
-
 reset-tx-len-requires : tie.Need-reset-tx-len-requires
 reset-tx-len-requires c κs = search needs
 
@@ -36,12 +33,6 @@ same-length-2 c = search needs
 
 returns-2 : tie.Need-returns-2
 returns-2 c = search (short-sent, needs)
-
-with-control-requires : tie.Need-with-control-requires
-with-control-requires c κs = search needs
-
-finish-requires : tie.Need-finish-requires
-finish-requires c κs = search needs
 
 returns-3 : tie.Need-returns-3
 returns-3 c = search (more-to-send, needs)
@@ -56,11 +47,8 @@ data-in-spec =
     end-requires
     same-length
     returns
-    tx-size-requires
     reset-tx-len-requires
     end-requires-2
     same-length-2
     returns-2
-    with-control-requires
-    finish-requires
     returns-3)

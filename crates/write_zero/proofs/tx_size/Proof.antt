@@ -1,6 +1,6 @@
 -- `write_zero::tx_size` meets its contract. Assumes nothing.
 use mathlib.Core.Path.{refl}
-use Rattle.write_zero.specs.Write.{txSize}
+use Rattle.write_zero.specs.Write.{txSizeIn}
 use borrow.Author.Needs.{needs}
 use Rattle.write_zero.proofs.tx_size.Statement.{statement}
 use Rattle.write_zero.proofs.tx_size.Tie as tie
@@ -12,7 +12,7 @@ cast-result : tie.Need-cast-result
 cast-result c = search needs
 
 returns : tie.Need-returns
-unfolding txSize
+unfolding txSizeIn
 returns c = refl
 
 pub tx-size-spec : {M : Type 1} → statement M
