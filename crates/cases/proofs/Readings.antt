@@ -7,7 +7,7 @@ use Rattle.laws.specs.Words.{bit}
 use Rattle.board.specs.Table as table
 use Rattle.regs.specs.Registers.{freshFile, freshRegs, index, faddr, sideWord, sideOf, sideIn, withSideIn, sideAt, withSide}
 use Rattle.csr.specs.Sound.{sideSound}
-use Rattle.regs.specs.Sound.{placeSound, soundBelow, regsSound}
+use Rattle.regs.specs.Sound.{wordsBelow, sidesBelow, regsSound}
 use Rattle.peek.specs.Peek.{shortIn, rxPktRdy, rxCount, ended}
 use Rattle.record.specs.Record as whole
 use Rattle.record.specs.Record.{freshRecord, areaIn, areaOf, needIn, needOf, flagsSound, recordSound, endpointsIn, endpointsOf}
@@ -18,5 +18,5 @@ use Rattle.usb_device_read.specs.Read.{got, taken, readIn, readCall}
 use Rattle.cases.specs.Readings.{readings}
 
 pub p13 : Hold (readings Display)
-unfolding _also_ bit freshFile freshRegs index faddr sideIn sideOf sideAt sideWord withSideIn withSide sideSound placeSound soundBelow regsSound shortIn rxPktRdy rxCount freshRecord areaIn areaOf needIn needOf table.sizesOf flagsSound whole.passes recordSound endpointsIn endpointsOf notReadable notSetup ownTestsAt testsIn ended rxSize dataOut readZero got taken readIn readCall
+unfolding _also_ bit freshFile freshRegs index faddr sideIn sideOf sideAt sideWord withSideIn withSide sideSound wordsBelow sidesBelow regsSound shortIn rxPktRdy rxCount freshRecord areaIn areaOf needIn needOf table.sizesOf flagsSound whole.passes recordSound endpointsIn endpointsOf notReadable notSetup ownTestsAt testsIn ended rxSize dataOut readZero got taken readIn readCall
 p13 = rw rows-display

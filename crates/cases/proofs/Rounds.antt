@@ -16,7 +16,7 @@ use Rattle.regs.specs.Registers.{freshFile, freshRegs, index, withIndex, faddr,
 use Rattle.regs.specs.Control.{csr0lRead}
 use Rattle.csr.specs.Control.{txcsrlOf, rxcsrlOf}
 use Rattle.csr.specs.Sound.{sideSound}
-use Rattle.regs.specs.Sound.{placeSound, soundBelow, regsSound}
+use Rattle.regs.specs.Sound.{wordsBelow, sidesBelow, regsSound}
 use Rattle.stores.specs.Stores.{Log, log, writeIndex}
 use Rattle.store_list.specs.Stores.{listed}
 use Rattle.events.specs.Events.{waitingAt, busRaised, busReset, busResume, intrusbCleared, intrCleared}
@@ -92,11 +92,11 @@ unfolding freshRecord freshFile freshRegs index withIndex faddr sideOf sideIn bi
 raised-display = refl
 
 sound-raised : passesIn display bothRaised ≡ true
-unfolding freshRecord freshFile freshRegs index withIndex faddr sideOf sideIn busReset busResume busRaised raised intrusb withIntrusb table.sizesOf regsSound soundBelow placeSound sideSound _also_ bit
+unfolding freshRecord freshFile freshRegs index withIndex faddr sideOf sideIn busReset busResume busRaised raised intrusb withIntrusb table.sizesOf regsSound sidesBelow wordsBelow sideSound _also_ bit
 sound-raised = refl
 
 served-14 : Served 2 (flagged fresh) space
-unfolding freshRecord freshFile freshRegs index withIndex faddr sideOf sideIn table.sizesOf regsSound soundBelow placeSound sideSound _also_ pollLogged roundOut acceptedOn walkedOn ended told walked visit drained readyAt acceptStep acceptedBy endpointZero repairedBelow numbers repaired overRunCleared underRunCleared writeIndex listed csr0lRead txcsrlOf rxcsrlOf sideAt setBits bitsBelow clear bit
+unfolding freshRecord freshFile freshRegs index withIndex faddr sideOf sideIn table.sizesOf regsSound sidesBelow wordsBelow sideSound _also_ pollLogged roundOut acceptedOn walkedOn ended told walked visit drained readyAt acceptStep acceptedBy endpointZero repairedBelow numbers repaired overRunCleared underRunCleared writeIndex listed csr0lRead txcsrlOf rxcsrlOf sideAt setBits bitsBelow clear bit
 served-14 = (refl, refl, refl, (refl, refl, refl, tt))
 
 said-14 : shortRun 2 (flagged fresh) space ≡ ((0 ∷ 1 ∷ 2 ∷ 0 ∷ 0 ∷ []) ∷ (0 ∷ 0 ∷ []) ∷ [])
@@ -104,7 +104,7 @@ unfolding freshRecord freshFile freshRegs index withIndex faddr sideOf sideIn po
 said-14 = refl
 
 served-15 : Served 1 (flagged fiveWaits) space
-unfolding freshRecord freshFile freshRegs index withIndex faddr sideOf sideIn waitingAt sideWord withSideIn withSide table.sizesOf regsSound soundBelow placeSound sideSound _also_ pollLogged roundOut acceptedOn walkedOn ended told walked visit drained readyAt acceptStep acceptedBy endpointZero repairedBelow numbers repaired overRunCleared underRunCleared writeIndex listed csr0lRead txcsrlOf rxcsrlOf sideAt setBits bitsBelow clear bit
+unfolding freshRecord freshFile freshRegs index withIndex faddr sideOf sideIn waitingAt sideWord withSideIn withSide table.sizesOf regsSound sidesBelow wordsBelow sideSound _also_ pollLogged roundOut acceptedOn walkedOn ended told walked visit drained readyAt acceptStep acceptedBy endpointZero repairedBelow numbers repaired overRunCleared underRunCleared writeIndex listed csr0lRead txcsrlOf rxcsrlOf sideAt setBits bitsBelow clear bit
 served-15 = (refl, refl, refl, tt)
 
 said-15 : shortRun 1 (flagged fiveWaits) space ≡ ((0 ∷ 1 ∷ 32 ∷ 0 ∷ 0 ∷ []) ∷ [])
@@ -112,7 +112,7 @@ unfolding freshRecord freshFile freshRegs index withIndex faddr sideOf sideIn wa
 said-15 = refl
 
 served-16 : Served 3 (shortTaken bothRaised) space
-unfolding freshRecord freshFile freshRegs index withIndex faddr sideOf sideIn busReset busResume busRaised raised intrusb withIntrusb cleared intrusbCleared intrCleared intrOf withIntr snapshotOf taken endpointsTaken endpointTaken raisedIf busTaken table.sizesOf regsSound soundBelow placeSound sideSound _also_ pollLogged roundOut acceptedOn walkedOn ended told walked visit drained readyAt acceptStep acceptedBy endpointZero repairedBelow numbers repaired overRunCleared underRunCleared writeIndex listed csr0lRead txcsrlOf rxcsrlOf sideAt setBits bitsBelow clear bit
+unfolding freshRecord freshFile freshRegs index withIndex faddr sideOf sideIn busReset busResume busRaised raised intrusb withIntrusb cleared intrusbCleared intrCleared intrOf withIntr snapshotOf taken endpointsTaken endpointTaken raisedIf busTaken table.sizesOf regsSound sidesBelow wordsBelow sideSound _also_ pollLogged roundOut acceptedOn walkedOn ended told walked visit drained readyAt acceptStep acceptedBy endpointZero repairedBelow numbers repaired overRunCleared underRunCleared writeIndex listed csr0lRead txcsrlOf rxcsrlOf sideAt setBits bitsBelow clear bit
 served-16 = (refl, refl, refl, (refl, refl, refl, (refl, refl, refl, tt)))
 
 said-16 : shortRun 3 (shortTaken bothRaised) space ≡ ((0 ∷ 2 ∷ []) ∷ (0 ∷ 3 ∷ []) ∷ (0 ∷ 0 ∷ []) ∷ [])

@@ -7,7 +7,7 @@ use Rattle.laws.specs.Words.{bit}
 use Rattle.board.specs.Table as table
 use Rattle.regs.specs.Registers.{freshFile, freshRegs, index, faddr, sideOf, sideIn, sideAt}
 use Rattle.csr.specs.Sound.{sideSound}
-use Rattle.regs.specs.Sound.{placeSound, soundBelow, regsSound}
+use Rattle.regs.specs.Sound.{wordsBelow, sidesBelow, regsSound}
 use Rattle.peek.specs.Peek.{shortIn, txPktRdy, ended}
 use Rattle.record.specs.Record as whole
 use Rattle.record.specs.Record.{freshRecord, areaIn, areaOf, needIn, needOf, flagsSound, recordSound, endpointsIn, endpointsOf}
@@ -18,5 +18,5 @@ use Rattle.usb_device_write.specs.Write.{sent, taken, writeIn, writeCall}
 use Rattle.cases.specs.Writes.{writes}
 
 pub p11-and-p12 : Hold (writes Display)
-unfolding _also_ bit freshFile freshRegs index faddr sideIn sideOf sideAt sideSound placeSound soundBelow regsSound txPktRdy freshRecord areaIn areaOf needIn needOf table.sizesOf flagsSound whole.passes recordSound endpointsIn endpointsOf shortIn tooLong notWritable ownTestsAt testsIn txSizeIn txSize ended dataIn sentDataIn sent taken writeIn writeCall
+unfolding _also_ bit freshFile freshRegs index faddr sideIn sideOf sideAt sideSound wordsBelow sidesBelow regsSound txPktRdy freshRecord areaIn areaOf needIn needOf table.sizesOf flagsSound whole.passes recordSound endpointsIn endpointsOf shortIn tooLong notWritable ownTestsAt testsIn txSizeIn txSize ended dataIn sentDataIn sent taken writeIn writeCall
 p11-and-p12 = rw rows-display

@@ -9,7 +9,7 @@ use native.Mathlib.Decide.{ℕ-discrete, decLe}
 use native.Mathlib.Nat.{lt-of-not-le}
 use native.Mathlib.Omega.{arith}
 use borrow.Author.Tests.{leb-true, le-leb, ltb-true, lt-ltb}
-use lib.Dec.{lit<, lit≤}
+use lib.Dec.{ltb, lit<, lit≤}
 use lib.ListN.{length, getD, set}
 use lib.Seq.{getD-set-same, getD-set-other}
 use Rattle.laws.specs.Tests.{_also_}
@@ -24,43 +24,64 @@ use Rattle.csr.specs.Sound.{sideSound, SideOk}
 use Rattle.regs.specs.Control.{csr0lStored, csr0hFlushed}
 use Rattle.csr.proofs.Soundness.{side-ok, side-test, none-ok}
 use Rattle.regs.specs.Registers.{File, Whole, freshFile, index, faddr, sideIn, sideAt, withSide, withSideIn, sideWord, withSetupend}
-use Rattle.regs.specs.Sound.{placeSound, soundBelow, regsSound, Clean, Sound}
+use Rattle.regs.specs.Sound.{wordsBelow, sidesBelow, regsSound, Clean, Sound}
 use Rattle.regs.proofs.Words.{word-lt}
 use Rattle.regs.proofs.Sides.{place-lt, there, past, put-there, unchanged, side-either, word-either, keeps, keeps-length, keeps-index, keeps-faddr, fresh-zero}
 
--- a turn of the loop
-pub sound-next : (sizes : List ℕ) (w : File) (i : ℕ) → soundBelow sizes w (i + 1) ≡ (soundBelow sizes w i also placeSound (getD sizes i 0) w i)
-unfolding soundBelow
-sound-next sizes w i = let e : i + 1 ≡ suc i = omega arith in ap (soundBelow sizes w) e
+-- a turn of either loop
+pub words-next : (w : File) (i : ℕ) → wordsBelow w (i + 1) ≡ (wordsBelow w i also ltb (getD w (10 + i) 0) 32)
+unfolding wordsBelow
+words-next w i = let e : i + 1 ≡ suc i = omega arith in ap (wordsBelow w) e
 
-pub sound-none : (sizes : List ℕ) (w : File) → soundBelow sizes w 0 ≡ true
-unfolding soundBelow
-sound-none sizes w = refl
+pub words-none : (w : File) → wordsBelow w 0 ≡ true
+unfolding wordsBelow
+words-none w = refl
+
+pub sides-next : (sizes : List ℕ) (w : File) (i : ℕ) → sidesBelow sizes w (i + 1) ≡ (sidesBelow sizes w i also sideSound (getD sizes i 0) (sideIn w i))
+unfolding sidesBelow
+sides-next sizes w i = let e : i + 1 ≡ suc i = omega arith in ap (sidesBelow sizes w) e
+
+pub sides-none : (sizes : List ℕ) (w : File) → sidesBelow sizes w 0 ≡ true
+unfolding sidesBelow
+sides-none sizes w = refl
 
 -- every place below n passes, and the other way about
-at-place : (sizes : List ℕ) (w : File) (n : ℕ) → soundBelow sizes w n ≡ true → (i : ℕ) → i < n → placeSound (getD sizes i 0) w i ≡ true
-unfolding soundBelow
-at-place sizes w zero p i h = absurd (omega arith)
-at-place sizes w (suc n) p i h = go (at-place sizes w n (also-left _ _ p) i) (ℕ-discrete i n)
+word-at : (w : File) (n : ℕ) → wordsBelow w n ≡ true → (i : ℕ) → i < n → ltb (getD w (10 + i) 0) 32 ≡ true
+unfolding wordsBelow
+word-at w zero p i h = absurd (omega arith)
+word-at w (suc n) p i h = go (word-at w n (also-left _ _ p) i) (ℕ-discrete i n)
   where
-    go : (i < n → placeSound (getD sizes i 0) w i ≡ true) → Dec (i ≡ n) → placeSound (getD sizes i 0) w i ≡ true
+    go : (i < n → ltb (getD w (10 + i) 0) 32 ≡ true) → Dec (i ≡ n) → ltb (getD w (10 + i) 0) 32 ≡ true
     go below (yes e) = rw e (also-right _ _ p)
     go below (no e) = below (omega arith)
 
-places : (sizes : List ℕ) (w : File) (n : ℕ) → ((i : ℕ) → i < n → placeSound (getD sizes i 0) w i ≡ true) → soundBelow sizes w n ≡ true
-unfolding soundBelow
-places sizes w zero k = refl
-places sizes w (suc n) k = also-both (places sizes w n (λ i h. k i (omega arith))) (k n (omega arith))
+words : (w : File) (n : ℕ) → ((i : ℕ) → i < n → ltb (getD w (10 + i) 0) 32 ≡ true) → wordsBelow w n ≡ true
+unfolding wordsBelow
+words w zero k = refl
+words w (suc n) k = also-both (words w n (λ i h. k i (omega arith))) (k n (omega arith))
 
-sides-ok : (sizes : List ℕ) (w : File) → soundBelow sizes w 12 ≡ true → (e : ℕ) (d : Direction) → SideOk (getD sizes (place e d) 0) (sideAt w e d)
-unfolding placeSound
+side-in : (sizes : List ℕ) (w : File) (n : ℕ) → sidesBelow sizes w n ≡ true → (i : ℕ) → i < n → sideSound (getD sizes i 0) (sideIn w i) ≡ true
+unfolding sidesBelow
+side-in sizes w zero p i h = absurd (omega arith)
+side-in sizes w (suc n) p i h = go (side-in sizes w n (also-left _ _ p) i) (ℕ-discrete i n)
+  where
+    go : (i < n → sideSound (getD sizes i 0) (sideIn w i) ≡ true) → Dec (i ≡ n) → sideSound (getD sizes i 0) (sideIn w i) ≡ true
+    go below (yes e) = rw e (also-right _ _ p)
+    go below (no e) = below (omega arith)
+
+sides : (sizes : List ℕ) (w : File) (n : ℕ) → ((i : ℕ) → i < n → sideSound (getD sizes i 0) (sideIn w i) ≡ true) → sidesBelow sizes w n ≡ true
+unfolding sidesBelow
+sides sizes w zero k = refl
+sides sizes w (suc n) k = also-both (sides sizes w n (λ i h. k i (omega arith))) (k n (omega arith))
+
+sides-ok : (sizes : List ℕ) (w : File) → sidesBelow sizes w 12 ≡ true → (e : ℕ) (d : Direction) → SideOk (getD sizes (place e d) 0) (sideAt w e d)
 sides-ok sizes w p e d = go (decLe 6 e)
   where
     go : Dec (6 ≤ e) → SideOk (getD sizes (place e d) 0) (sideAt w e d)
     go (yes h) = rw (past w e d h) (none-ok _)
     go (no h) =
         let l = lt-of-not-le h in
-        rw (there w e d l) (side-ok _ _ (also-left _ _ (at-place sizes w 12 p (place e d) (place-lt e d l))))
+        rw (there w e d l) (side-ok _ _ (side-in sizes w 12 p (place e d) (place-lt e d l)))
 
 -- a place below twelve is that of an endpoint and a direction
 pub record Placed (i : ℕ) : Type 0 where
@@ -88,22 +109,23 @@ placed (suc (suc i)) h = up (placed i (omega arith))
 -- the whole test
 module _ (sizes : List ℕ) (count : ℕ) (w : File) where
   pub is-sound : regsSound sizes count w ≡ true → Sound sizes count w
-  unfolding regsSound placeSound
+  unfolding regsSound
   is-sound p = record {
-    selected = ltb-true _ _ (also-left _ _ (also-left _ _ (also-left _ _ p)));
-    address = leb-true _ _ (also-right _ _ (also-left _ _ (also-left _ _ p)));
+    selected = ltb-true _ _ (also-left _ _ (also-left _ _ (also-left _ _ (also-left _ _ p))));
+    address = leb-true _ _ (also-right _ _ (also-left _ _ (also-left _ _ (also-left _ _ p))));
     clean = record {
-      ended = leb-true _ _ (also-right _ _ (also-left _ _ p));
-      bits = λ i h. ltb-true _ _ (also-right _ _ (at-place sizes w 12 (also-right _ _ p) i h));
+      ended = leb-true _ _ (also-right _ _ (also-left _ _ (also-left _ _ p)));
+      bits = λ i h. ltb-true _ _ (word-at w 12 (also-right _ _ (also-left _ _ p)) i h);
     };
     side = sides-ok sizes w (also-right _ _ p);
   }
 
   pub sound-passes : Sound sizes count w → regsSound sizes count w ≡ true
-  unfolding regsSound placeSound
+  unfolding regsSound
   sound-passes k =
-      also-both (also-both (also-both (lt-ltb _ _ (k .selected)) (le-leb _ _ (k .address))) (le-leb _ _ (k .clean .ended)))
-      (places sizes w 12 (λ i h. also-both (one i (placed i h)) (lt-ltb _ _ (k .clean .bits i h))))
+      also-both
+      (also-both (also-both (also-both (lt-ltb _ _ (k .selected)) (le-leb _ _ (k .address))) (le-leb _ _ (k .clean .ended))) (words w 12 (λ i h. lt-ltb _ _ (k .clean .bits i h))))
+      (sides sizes w 12 (λ i h. one i (placed i h)))
     where
       one : (i : ℕ) → Placed i → sideSound (getD sizes i 0) (sideIn w i) ≡ true
       one i q = rw (q .is) (rw (← there w (q .e) (q .d) (q .below)) (side-test _ _ (k .side (q .e) (q .d))))

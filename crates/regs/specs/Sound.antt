@@ -11,18 +11,19 @@ use Rattle.board.specs.declared.Direction.{Direction}
 use Rattle.regs.specs.Registers.{File, index, faddr, sideIn, sideAt}
 use Rattle.csr.specs.Sound.{sideSound, SideOk}
 
--- the side in a place; and of its control bits no others than the five, since all else of a control register reads 0
-unfoldable pub placeSound : ℕ → File → ℕ → Bool
-placeSound size w i = sideSound size (sideIn w i) also ltb (getD w (10 + i) 0) 32
+-- of every side below a place: no control bits but the five, since all else of a control register reads 0
+unfoldable pub wordsBelow : File → ℕ → Bool
+wordsBelow w zero = true
+wordsBelow w (suc i) = wordsBelow w i also ltb (getD w (10 + i) 0) 32
 
--- every side below a place; the sizes stand in the order of the areas: an endpoint's transmit area, then its receive area
-unfoldable pub soundBelow : List ℕ → File → ℕ → Bool
-soundBelow sizes w zero = true
-soundBelow sizes w (suc i) = soundBelow sizes w i also placeSound (getD sizes i 0) w i
+-- and its waiting length; the sizes stand in the order of the areas: an endpoint's transmit area, then its receive area
+unfoldable pub sidesBelow : List ℕ → File → ℕ → Bool
+sidesBelow sizes w zero = true
+sidesBelow sizes w (suc i) = sidesBelow sizes w i also sideSound (getD sizes i 0) (sideIn w i)
 
 -- and "selection over 5, address over 127": the board's own last endpoint is the bound of a selection. SetupEnd is one bit.
 unfoldable pub regsSound : List ℕ → ℕ → File → Bool
-regsSound sizes count w = ltb (index w) count also leb (faddr w) 127 also leb (getD w 9 0) 1 also soundBelow sizes w 12
+regsSound sizes count w = ltb (index w) count also leb (faddr w) 127 also leb (getD w 9 0) 1 also wordsBelow w 12 also sidesBelow sizes w 12
 
 -- no number stands in the file that no register can hold: SetupEnd is one bit, and of a control register five bits are kept
 pub record Clean (w : File) : Type 0 where

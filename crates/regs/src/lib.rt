@@ -12,7 +12,7 @@ ghost use mathlib.Core.Path.{_≡_};
 ghost use Prim.Native.Nat.{_<_};
 ghost use Rattle.regs.specs.Registers.{freshRegs, sideWord, sideIn, withSideIn, sideAt, withSide};
 ghost use Rattle.regs.specs.Control.{csr0lRead, txcsrlRead, rxcsrlRead, count0, rxcount, csr0lStored, csr0hFlushed};
-ghost use Rattle.regs.specs.Sound.{placeSound, soundBelow, regsSound};
+ghost use Rattle.regs.specs.Sound.{wordsBelow, sidesBelow, regsSound};
 
 // Places in the array: the registers that are there once; of the interrupt registers what is raised and not read yet (of the bus suspend is
 // bit 0, resume bit 1, reset bit 2); SetupEnd of CSR0L.
@@ -44,8 +44,8 @@ const LEN: usize = 22;
 const MAXP: usize = 34;
 
 pub struct Regs {
-    pub board: Board,
     pub words: [u16; 46],
+    pub board: Board,
 }
 
 // Registers 0, nothing waiting.
@@ -180,21 +180,26 @@ pub fn flush_csr0h(w: &mut [u16; 46])
     put_side(w, 0, Direction::Out, rx);
 }
 
-fn place_sound(w: &[u16; 46], size: u16, i: usize) -> bool
-    requires { ⌜ i < 12 ⌝ }
-    ensures { λ b. ⌜ b ≡ placeSound size (now (w .entry)) i ⌝ }
-{
-    csr::side_sound(size, side_in(w, i)) & (w[CSR + i] < 32)
-}
-
-// No early end: so the tests are made several at a time.
-fn sides_sound(w: &[u16; 46], sizes: &[u16; 12]) -> bool
-    ensures { λ b. ⌜ b ≡ soundBelow (now (sizes .entry)) (now (w .entry)) 12 ⌝ }
+// Reply 16 of the sides, one test over all of them after the other and no early end: so each is made several at a time.
+fn words_sound(w: &[u16; 46]) -> bool
+    ensures { λ b. ⌜ b ≡ wordsBelow (now (w .entry)) 12 ⌝ }
 {
     let mut ok = true;
     let mut i = 0usize;
     while i < 12 {
-        ok = ok & place_sound(w, sizes[i], i);
+        ok = ok & (w[CSR + i] < 32);
+        i += 1;
+    }
+    ok
+}
+
+fn sides_sound(w: &[u16; 46], sizes: &[u16; 12]) -> bool
+    ensures { λ b. ⌜ b ≡ sidesBelow (now (sizes .entry)) (now (w .entry)) 12 ⌝ }
+{
+    let mut ok = true;
+    let mut i = 0usize;
+    while i < 12 {
+        ok = ok & csr::side_sound(sizes[i], side_in(w, i));
         i += 1;
     }
     ok
@@ -204,5 +209,9 @@ fn sides_sound(w: &[u16; 46], sizes: &[u16; 12]) -> bool
 pub fn sound(w: &[u16; 46], sizes: &[u16; 12], count: u8) -> bool
     ensures { λ b. ⌜ b ≡ regsSound (now (sizes .entry)) count (now (w .entry)) ⌝ }
 {
-    (w[INDEX] < count as u16) & (w[FADDR] <= 127) & (w[SETUPEND] <= 1) & sides_sound(w, sizes)
+    (w[INDEX] < count as u16)
+        & (w[FADDR] <= 127)
+        & (w[SETUPEND] <= 1)
+        & words_sound(w)
+        & sides_sound(w, sizes)
 }

@@ -13,7 +13,8 @@ use Rattle.csr.specs.declared.RxcsrlSet.the-variants as rxcsrl
 use Rattle.csr.specs.declared.Side.{Side}
 use Rattle.regs.specs.Registers.{File}
 use Rattle.regs.proofs.Readings.{reselected}
-use Rattle.stores.specs.Stores.{Log, log, noted, writeIndex, modifyRxcsrl}
+use Rattle.stores.proofs.Promises.{index-selects}
+use Rattle.stores.specs.Stores.{Log, log, writeIndex, modifyRxcsrl}
 use Rattle.control_state.specs.Control.{idle}
 use Rattle.control_state.specs.declared.ControlState.{ControlState}
 use Rattle.record.specs.declared.Flags.{Flags}
@@ -63,8 +64,9 @@ module _ (ep : ℕ) (x : List ℕ) (n size : ℕ) (c : ControlState) (f : Flags)
 
 -- the selection changes no count, so that it is the same before and after
 pub same-count : (ep : ℕ) (g : Log) {h : Log} → h ≡ writeIndex ep g → rxCount ep (h .regs) ≡ rxCount ep (g .regs)
-unfolding writeIndex noted rxCount
-same-count ep g p = ap (λ (h : Log). rxCount ep (h .regs)) p ∙ ap (λ (s : Side). s .len) (reselected (g .regs) ep ep Out)
+unfolding rxCount
+same-count ep g p =
+    ap (λ (h : Log). rxCount ep (h .regs)) p ∙ ap (rxCount ep) (index-selects ep g) ∙ ap (λ (s : Side). s .len) (reselected (g .regs) ep ep Out)
 
 pub packet-there : (b : Board) (f : Flags) (ep : ℕ) (g : Log) {h : Log} → h ≡ writeIndex ep g → passes b (g .regs) f ≡ true → rxCount ep (h .regs) ≤ areaIn b ep Out .size
 packet-there b f ep g p q = rw (same-count ep g p) (packet-fits b (g .regs) f ep q)

@@ -1,12 +1,14 @@
-use mathlib.Core.Path.{refl}
-use Rattle.laws.specs.Tests.{_also_}
+use borrow.Author.Needs.{needs}
 use Rattle.csr.specs.Sound.{sideSound}
 use Rattle.csr.proofs.side_sound.Statement.{statement}
 use Rattle.csr.proofs.side_sound.Tie as tie
 
+room-requires : tie.Need-room-requires
+room-requires c κs = search needs
+
 returns : tie.Need-returns
-unfolding sideSound _also_
-returns c = refl
+unfolding sideSound
+returns c = cc
 
 pub side-sound-spec : {M : Type 1} → statement M
-side-sound-spec = tie.close (tie.spec returns)
+side-sound-spec = tie.close (tie.spec room-requires returns)

@@ -4,19 +4,13 @@ use Rattle.peek.proofs.Endings.{block-done}
 use borrow.Author.Needs.{needs}
 use Rattle.peek.proofs.block.Statement.{statement}
 use Rattle.peek.proofs.block.Tie as tie
-use Rattle.peek.proofs.block.Reads as reads
-use Rattle.peek.proofs.block.Lts as lts
-use Rattle.stores.proofs.write_index.Reads as write-index-reads
 
--- src/lib.rt:63:9
 write-index-requires : tie.Need-write-index-requires
 write-index-requires c κs = search needs
 
--- src/lib.rt:59:1
 same-length : tie.Need-same-length
 same-length c = search needs
 
--- src/lib.rt:59:1
 returns : tie.Need-returns
 returns c = let a = c .before .before .before .before .before .before .args in block-done (a .ep) (a .c) (a .f) (log (now (a .w)) (now (a .list)) 0) (c .before .before .write-index .ensures .0)
 

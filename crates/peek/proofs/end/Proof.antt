@@ -4,19 +4,13 @@ use Rattle.peek.proofs.Endings.{end-done}
 use borrow.Author.Needs.{needs}
 use Rattle.peek.proofs.end.Statement.{statement}
 use Rattle.peek.proofs.end.Tie as tie
-use Rattle.peek.proofs.end.Reads as reads
-use Rattle.peek.proofs.end.Lts as lts
-use Rattle.stores.proofs.modify_csr0l.Reads as modify-csr0l-reads
 
--- src/lib.rt:76:9
 modify-csr0l-requires : tie.Need-modify-csr0l-requires
 modify-csr0l-requires c κs = search needs
 
--- src/lib.rt:72:1
 same-length : tie.Need-same-length
 same-length c = search needs
 
--- src/lib.rt:72:1
 returns : tie.Need-returns
 returns c = let a = c .before .before .before .before .before .before .args in end-done (a .c) (a .f) (log (now (a .w)) (now (a .list)) (a .n)) (c .before .before .modify-csr0l .ensures .0)
 

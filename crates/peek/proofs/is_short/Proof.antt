@@ -2,15 +2,10 @@ use Rattle.peek.specs.Peek.{shortIn}
 use borrow.Author.Needs.{needs}
 use Rattle.peek.proofs.is_short.Statement.{statement}
 use Rattle.peek.proofs.is_short.Tie as tie
-use Rattle.peek.proofs.is_short.Reads as reads
-use Rattle.peek.proofs.is_short.Lts as lts
-use Rattle.record.proofs.need.Reads as need-reads
 
--- src/lib.rt:20:13
 need-requires : tie.Need-need-requires
 need-requires c κs = search needs
 
--- src/lib.rt:17:1
 returns : tie.Need-returns
 unfolding shortIn
 returns c = cc

@@ -4,15 +4,10 @@ use Rattle.record.specs.Record.{areaIn, needIn}
 use borrow.Author.Needs.{needs}
 use Rattle.record.proofs.area.Statement.{statement}
 use Rattle.record.proofs.area.Tie as tie
-use Rattle.record.proofs.area.Reads as reads
-use Rattle.record.proofs.area.Lts as lts
-use Rattle.board.proofs.area.Reads as area-reads
 
--- src/lib.rt:106:5
 area-requires : tie.Need-area-requires
 area-requires c κs = search needs
 
--- src/lib.rt:103:1
 returns : tie.Need-returns
 unfolding areaIn needIn
 returns c = (c .area .ensures .0, c .area .ensures .1, omega (arith, total-fits (c .before .args .b), c .area .ensures .1))

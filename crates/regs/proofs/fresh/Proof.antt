@@ -1,10 +1,7 @@
 use Rattle.regs.specs.Registers.{freshRegs, freshFile}
 use Rattle.regs.proofs.fresh.Statement.{statement}
 use Rattle.regs.proofs.fresh.Tie as tie
-use Rattle.regs.proofs.fresh.Reads as reads
-use Rattle.regs.proofs.fresh.Lts as lts
 
--- src/lib.rt:52:1
 returns : tie.Need-returns
 unfolding freshRegs freshFile
 returns c = cc

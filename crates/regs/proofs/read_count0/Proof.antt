@@ -2,15 +2,10 @@ use Rattle.regs.specs.Control.{count0}
 use borrow.Author.Needs.{needs}
 use Rattle.regs.proofs.read_count0.Statement.{statement}
 use Rattle.regs.proofs.read_count0.Tie as tie
-use Rattle.regs.proofs.read_count0.Reads as reads
-use Rattle.regs.proofs.read_count0.Lts as lts
-use Rattle.regs.proofs.side_at.Reads as side-at-reads
 
--- src/lib.rt:150:9
 side-at-requires : tie.Need-side-at-requires
 side-at-requires c κs = search needs
 
--- src/lib.rt:147:1
 returns : tie.Need-returns
 unfolding count0
 returns c = cc

@@ -3,19 +3,13 @@ use Rattle.regs.specs.Control.{rxcount}
 use borrow.Author.Needs.{needs}
 use Rattle.regs.proofs.read_rxcount.Statement.{statement}
 use Rattle.regs.proofs.read_rxcount.Tie as tie
-use Rattle.regs.proofs.read_rxcount.Reads as reads
-use Rattle.regs.proofs.read_rxcount.Lts as lts
-use Rattle.regs.proofs.side_at.Reads as side-at-reads
 
--- src/lib.rt:157:24
 element-copy-out-side-at : tie.Need-element-copy-out-side-at
 element-copy-out-side-at c = search needs
 
--- src/lib.rt:157:9
 side-at-requires : tie.Need-side-at-requires
 side-at-requires c κs = search needs
 
--- src/lib.rt:154:1
 returns : tie.Need-returns
 unfolding rxcount index
 returns c = cc

@@ -5,33 +5,22 @@ use mathlib.Core.Path.{ap, sym, _∙_}
 use borrow.Author.Needs.{needs}
 use Rattle.regs.proofs.side_at.Statement.{statement}
 use Rattle.regs.proofs.side_at.Tie as tie
-use Rattle.regs.proofs.side_at.Reads as reads
-use Rattle.regs.proofs.side_at.Lts as lts
-use Rattle.board.proofs.place_of.Reads as place-of-reads
-use Rattle.csr.proofs.no_side.Reads as no-side-reads
-use Rattle.regs.proofs.side_in.Reads as side-in-reads
 
--- src/lib.rt:103:43
 cast-place-of : tie.Need-cast-place-of
 cast-place-of c = search needs
 
--- src/lib.rt:103:27
 place-of-requires : tie.Need-place-of-requires
 place-of-requires c κs = search needs
 
--- src/lib.rt:103:9
 side-in-requires : tie.Need-side-in-requires
 side-in-requires c κs = search needs
 
--- src/lib.rt:103:9
 returns : tie.Need-returns
 returns c = c .side-in .ensures ∙ ap (sideIn _) (c .before .place-of .ensures .0) ∙ sym (there _ _ _ (c .before .before .if1 .taken))
 
--- src/lib.rt:105:5
 no-side-requires : tie.Need-no-side-requires
 no-side-requires c κs = search needs
 
--- src/lib.rt:99:1
 returns-2 : tie.Need-returns-2
 returns-2 c = c .no-side .ensures ∙ sym (past _ _ _ (omega arith))
 

@@ -2,47 +2,34 @@ use Rattle.regs.specs.Registers.{sideWord}
 use borrow.Author.Needs.{needs}
 use Rattle.regs.proofs.side_word.Statement.{statement}
 use Rattle.regs.proofs.side_word.Tie as tie
-use Rattle.regs.proofs.side_word.Reads as reads
-use Rattle.regs.proofs.side_word.Lts as lts
-use Rattle.csr.proofs.weight.Reads as weight-reads
 
--- src/lib.rt:65:5
 weight-requires : tie.Need-weight-requires
 weight-requires c κs = search needs
 
--- src/lib.rt:66:11
 weight-requires-2 : tie.Need-weight-requires-2
 weight-requires-2 c κs = search needs
 
--- src/lib.rt:65:5
 add-result : tie.Need-add-result
 add-result c = search needs
 
--- src/lib.rt:67:11
 weight-requires-3 : tie.Need-weight-requires-3
 weight-requires-3 c κs = search needs
 
--- src/lib.rt:65:5
 add-result-2 : tie.Need-add-result-2
 add-result-2 c = search needs
 
--- src/lib.rt:68:11
 weight-requires-4 : tie.Need-weight-requires-4
 weight-requires-4 c κs = search needs
 
--- src/lib.rt:65:5
 add-result-3 : tie.Need-add-result-3
 add-result-3 c = search needs
 
--- src/lib.rt:69:11
 weight-requires-5 : tie.Need-weight-requires-5
 weight-requires-5 c κs = search needs
 
--- src/lib.rt:65:5
 add-result-4 : tie.Need-add-result-4
 add-result-4 c = search needs
 
--- src/lib.rt:62:1
 returns : tie.Need-returns
 unfolding sideWord
 returns c = cc

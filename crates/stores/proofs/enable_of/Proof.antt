@@ -2,31 +2,23 @@ use Rattle.regs.specs.Registers.{enabledOf}
 use borrow.Author.Needs.{needs}
 use Rattle.stores.proofs.enable_of.Statement.{statement}
 use Rattle.stores.proofs.enable_of.Tie as tie
-use Rattle.stores.proofs.enable_of.Reads as reads
-use Rattle.stores.proofs.enable_of.Lts as lts
 
--- src/lib.rt:139:27
 enum-told : tie.Need-enum-told
 enum-told c = search needs
 
--- src/lib.rt:139:27
 element-copy-out-result : tie.Need-element-copy-out-result
 element-copy-out-result c = search needs
 
--- src/lib.rt:140:26
 enum-told-2 : tie.Need-enum-told-2
 enum-told-2 c = search needs
 
--- src/lib.rt:140:26
 element-copy-out-result-2 : tie.Need-element-copy-out-result-2
 element-copy-out-result-2 c = search needs
 
--- src/lib.rt:135:1
 returns : tie.Need-returns
 unfolding enabledOf
 returns c = cc
 
--- src/lib.rt:135:1
 returns-2 : tie.Need-returns-2
 unfolding enabledOf
 returns-2 c = cc

@@ -3,23 +3,16 @@ use Rattle.stores.specs.Stores.{noted}
 use borrow.Author.Needs.{needs}
 use Rattle.stores.proofs.note.Statement.{statement}
 use Rattle.stores.proofs.note.Tie as tie
-use Rattle.stores.proofs.note.Reads as reads
-use Rattle.stores.proofs.note.Lts as lts
-use Rattle.store_list.proofs.put.Reads as put-reads
 
--- src/lib.rt:21:40
 element-copy-out-put : tie.Need-element-copy-out-put
 element-copy-out-put c = search needs
 
--- src/lib.rt:21:5
 put-requires : tie.Need-put-requires
 put-requires c κs = search needs
 
--- src/lib.rt:17:1
 same-length : tie.Need-same-length
 same-length c = search needs
 
--- src/lib.rt:17:1
 returns : tie.Need-returns
 unfolding noted index
 returns c = (cc, cc)

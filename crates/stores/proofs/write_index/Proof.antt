@@ -3,23 +3,16 @@ use Rattle.stores.specs.Stores.{writeIndex}
 use borrow.Author.Needs.{needs}
 use Rattle.stores.proofs.write_index.Statement.{statement}
 use Rattle.stores.proofs.write_index.Tie as tie
-use Rattle.stores.proofs.write_index.Reads as reads
-use Rattle.stores.proofs.write_index.Lts as lts
-use Rattle.store_list.proofs.put.Reads as put-reads
 
--- src/lib.rt:44:5
 element-write-w : tie.Need-element-write-w
 element-write-w c = search needs
 
--- src/lib.rt:45:5
 put-requires : tie.Need-put-requires
 put-requires c κs = search needs
 
--- src/lib.rt:40:1
 same-length : tie.Need-same-length
 same-length c = search needs
 
--- src/lib.rt:40:1
 returns : tie.Need-returns
 unfolding writeIndex withIndex
 returns c = (cc, cc)

@@ -3,23 +3,16 @@ use Rattle.stores.specs.Stores.{writeIntrusbe}
 use borrow.Author.Needs.{needs}
 use Rattle.stores.proofs.write_intrusbe.Statement.{statement}
 use Rattle.stores.proofs.write_intrusbe.Tie as tie
-use Rattle.stores.proofs.write_intrusbe.Reads as reads
-use Rattle.stores.proofs.write_intrusbe.Lts as lts
-use Rattle.stores.proofs.note.Reads as note-reads
 
--- src/lib.rt:131:5
 element-write-w : tie.Need-element-write-w
 element-write-w c = search needs
 
--- src/lib.rt:132:5
 note-requires : tie.Need-note-requires
 note-requires c κs = search needs
 
--- src/lib.rt:127:1
 same-length : tie.Need-same-length
 same-length c = search needs
 
--- src/lib.rt:127:1
 returns : tie.Need-returns
 unfolding writeIntrusbe withIntrusbe
 returns c = (cc, cc)

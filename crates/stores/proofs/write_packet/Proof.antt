@@ -6,37 +6,25 @@ use Rattle.regs.specs.Registers.{index}
 use borrow.Author.Needs.{needs}
 use Rattle.stores.proofs.write_packet.Statement.{statement}
 use Rattle.stores.proofs.write_packet.Tie as tie
-use Rattle.stores.proofs.write_packet.Reads as reads
-use Rattle.stores.proofs.write_packet.Lts as lts
-use Rattle.regs.proofs.put_side.Reads as put-side-reads
-use Rattle.regs.proofs.side_at.Reads as side-at-reads
-use Rattle.stores.proofs.note.Reads as note-reads
 
--- src/lib.rt:183:9
 returns : tie.Need-returns
 returns c = let a = c .before .before .args in (packet-none (a .len) (log (now (a .w)) (now (a .list)) (a .n)) (c .if1 .taken), omega arith)
 
--- src/lib.rt:185:13
 element-copy-out-e : tie.Need-element-copy-out-e
 element-copy-out-e c = search needs
 
--- src/lib.rt:186:9
 side-at-requires : tie.Need-side-at-requires
 side-at-requires c κs = search needs
 
--- src/lib.rt:188:5
 put-side-requires : tie.Need-put-side-requires
 put-side-requires c κs = search needs
 
--- src/lib.rt:189:5
 note-requires : tie.Need-note-requires
 note-requires c κs = search needs
 
--- src/lib.rt:178:1
 same-length : tie.Need-same-length
 same-length c = search needs
 
--- src/lib.rt:178:1
 returns-2 : tie.Need-returns-2
 unfolding index
 returns-2 c = let d = c .before .before .before .before .before .before .before .before .before .before in let a = d .before .before .args in (cc (packet-some (a .len) (log (now (a .w)) (now (a .list)) (a .n)) (d .if1 .left)), omega arith)
