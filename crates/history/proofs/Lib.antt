@@ -6,6 +6,7 @@ pub mod Arrivals
 pub mod Interrupts
 pub mod Calm
 pub mod Steps
+pub mod Packets
 pub mod Demand
 pub mod Sample
 pub mod Histories
