@@ -20,21 +20,22 @@ use Rattle.record.specs.Record.{freshRecord, recordSound}
 use Rattle.record.proofs.Passing.{sound-record-passes}
 use Rattle.calls.specs.Calls.{Op, step}
 use Rattle.calls.proofs.Kept.{good-fresh, good-step, same-board}
-use Rattle.rounds.specs.Machine.{isAnsweredPoll, isInterrupt, arrivesAt, after}
-use Rattle.rounds.specs.Sentences.{Sentences, UntilTaken, StillThere, NotEmpty}
+use Rattle.rounds.specs.Machine.{isAnsweredPoll, isInterrupt, takesSuspend, arrivesAt, after}
+use Rattle.rounds.specs.Sentences.{RoundAfter, Sentences, UntilTaken, StillThere, NotEmpty}
 use Rattle.rounds.proofs.Counts.{count-at-most}
 use Rattle.rounds.specs.Laws.{Lawful}
 use Rattle.rounds.proofs.Lawful.{good-after}
 use Rattle.rounds.proofs.Third.{round-after}
 use Rattle.rounds.proofs.Taken.{still-there as unless-taken}
 use Rattle.rounds.proofs.Sentences.{sentences}
-use Rattle.history.specs.Driver.{event, driver, calls}
+use Rattle.history.specs.Driver.{event, takes, driver, calls}
 use Rattle.history.proofs.Look.{look, Kept}
 use Rattle.history.proofs.Polls.{poll-answered}
 use Rattle.history.proofs.Arrivals.{arrival-answered}
 use Rattle.history.proofs.Interrupts.{interrupt-answered}
 use Rattle.history.proofs.Steps.{does, one-place}
-use Rattle.history.proofs.Packets.{none-waits, lasts}
+use Rattle.history.proofs.Packets.{high, counted, none-waits, lasts}
+use Rattle.history.proofs.Fetching.{read-answered}
 
 -- the customer's "1 to 5": the display's highest endpoint
 pub one-to-five : driver Display .top ≡ 5
@@ -67,8 +68,12 @@ module _ (b : Board) where
         excused-fresh = refl;
       }
 
+  -- the last of them with its number and its excuse
+  pub after-two : RoundAfter (driver b) 2 takesSuspend
+  after-two = round-after lawful
+
   pub demand-3 : Sentences (driver b)
-  demand-3 = sentences lawful (round-after lawful)
+  demand-3 = sentences lawful after-two
 
   -- what arrived waits until it is taken
   pub until-taken : UntilTaken (driver b)
@@ -92,6 +97,11 @@ module _ (b : Board) where
             let k = after (driver b) h in
             subst (λ (o : Op). T (arrivesAt e (event k o))) (sym (q .is))
             (arrival-answered k e (q .bytes) (q .fifo) (passes h) (q .there) (q .fits) (q .lent) none);
+        read = λ h e ep o q w.
+            let k = after (driver b) h in
+            let g = good-after lawful h in
+            subst (λ (o : Op). T (takes k o e)) (sym (q .is))
+            (read-answered k e (q .buffer) (q .fifo) (q .list) (high b k g e ep) (passes h) (counted b k g e ep) (q .lent) (q .lent′) w);
       }
     where
       passes : (h : List Op) → recordSound (after (driver b) h) ≡ true

@@ -49,7 +49,7 @@ module _ (b : Board) (k : Record) (kept : Kept b k) (e : ℕ) (ep : Endpoint (dr
   six : Whole (k .regs .words)
   six = kept .good .six
 
-  high : e ≡ 0 → ⊥
+  pub high : e ≡ 0 → ⊥
   high z = omega (arith, ep .low, z)
 
   -- what is to be shown of an operation, by the record that it leaves, what it tells and what it takes
@@ -98,7 +98,7 @@ module _ (b : Board) (k : Record) (kept : Kept b k) (e : ℕ) (ep : Endpoint (dr
       go In true = refl
       go In false = refl
 
-  counted : e < endpointsOf k
+  pub counted : e < endpointsOf k
   unfolding endpointsIn endpointsOf
   counted = rw (kept .board) (below b e ep)
 

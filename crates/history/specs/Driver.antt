@@ -145,10 +145,20 @@ pub record LentArrival (k : Record) (e : ℕ) (o : Op) : Type 0 where
   pub fits : length bytes ≤ areaOf k e Out .size
   pub lent : needOf k ≤ length fifo
 
+-- a read at an endpoint, into a buffer of any length, lent 128 stores and the FIFO buffer that the board needs
+pub record LentRead (k : Record) (e : ℕ) (o : Op) : Type 0 where
+  pub buffer : List ℕ
+  pub fifo : List ℕ
+  pub list : List ℕ
+  pub is : o ≡ read e buffer fifo list
+  pub lent : needOf k ≤ length fifo
+  pub lent′ : 384 ≤ length list
+
 abbrev pub calls : (b : Board) → Calls (driver b)
 calls b = record {
   Good = λ k. recordSound k ≡ true;
   Poll = LentPoll;
   Interrupt = λ o. o ≡ onInterrupt;
   Arrival = LentArrival;
+  Read = LentRead;
 }

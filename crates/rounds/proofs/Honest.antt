@@ -311,6 +311,7 @@ module _ (top : ℕ) where
         taken = λ h o q. subst (λ (o : Op). T (isInterrupt (event top taken (honest top) (after (small top (honest top)) h) o))) (sym q) tt;
         arrived = λ h e o q w. let s = after (small top (honest top)) h in
             subst (λ (o : Op). T (arrivesAt e (event top taken (honest top) s o))) (sym (q .1)) (comes e (accepts top s e) (and-both (leb e top) (not (s .ready e)) (le→leb e top (q .0)) w));
+        read = λ h e ep o q w. subst (λ (o : Op). T (takes top taken (honest top) (after (small top (honest top)) h) o e)) (sym q) (eqb-refl e);
       }
 
   refuser-lawful : Lawful (small top (refuses top)) (λ s. T true) (look asIs top taken (refuses top))

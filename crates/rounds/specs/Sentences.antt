@@ -118,6 +118,7 @@ pub record Calls (M : Machine) : Type 1 where
   pub Poll : M .Op → Type 0  -- a poll that is lent enough
   pub Interrupt : M .Op → Type 0  -- an interrupt
   pub Arrival : M .State → ℕ → M .Op → Type 0  -- an arrival at an endpoint, of a packet that fits there, lent enough
+  pub Read : M .State → ℕ → M .Op → Type 0  -- a read at an endpoint, lent enough
 
 module _ (M : Machine) (C : Calls M) where
   pub record NotEmpty : Type 0 where
@@ -131,3 +132,5 @@ module _ (M : Machine) (C : Calls M) where
     pub taken : (h : List (M .Op)) (o : M .Op) → C .Interrupt o → T (isInterrupt (M .event (after M h) o))
     -- an arrival that fits, where none waits, lent enough, is answered
     pub arrived : (h : List (M .Op)) (e : ℕ) (o : M .Op) → C .Arrival (after M h) e o → T (not (M .waiting (after M h) e)) → T (arrivesAt e (M .event (after M h) o))
+    -- a read where a packet waits, lent enough, is answered, and takes it
+    pub read : (h : List (M .Op)) (e : ℕ) → Endpoint M e → (o : M .Op) → C .Read (after M h) e o → T (M .waiting (after M h) e) → T (M .takes (after M h) o e)

@@ -1,4 +1,5 @@
 -- A small machine whose poll and interrupt can be exchanged: an honest one, and the shams that demand 3 must shut out.
+-- Examples: nothing that is promised of the driver rests on this file.
 -- Assumes nothing.
 use mathlib.Core.Path.{_≡_}
 use mathlib.Core.Bool.{Bool, true, false, not, cond, _&&_, _||_}
@@ -163,7 +164,7 @@ module _ (top : ℕ) where
         record { top = top; State = State; Op = Op; fresh = start; step = step; event = event; waiting = λ s e. s .ready e; takes = takes }
 
     abbrev pub calls : Calls machine
-    calls = record { Good = λ s. T true; Poll = λ o. o ≡ poll; Interrupt = λ o. o ≡ irq; Arrival = λ s e o. (e ≤ top) × (o ≡ arrive e) }
+    calls = record { Good = λ s. T true; Poll = λ o. o ≡ poll; Interrupt = λ o. o ≡ irq; Arrival = λ s e o. (e ≤ top) × (o ≡ arrive e); Read = λ s e o. o ≡ take e }
 
   abbrev pub small : (State → Polled) → Machine
   small ask = machine taken ask
