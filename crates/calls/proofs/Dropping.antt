@@ -139,7 +139,9 @@ module _ {r : File} where
 
 none-above : (es : List EndpointData) (n e : ℕ) → n ≤ e → goneBelow es n e ≡ false
 none-above es zero e h = refl
-none-above es (suc n) e h = rw (ne-eqb e n (λ p. omega arith)) (ap (λ (b : Bool). b || goneBelow es n e) (and-zero (getD es n blank .«used_rx»)) ∙ none-above es n e (omega arith))
+none-above es (suc n) e h =
+    rw (ne-eqb e n (λ p. omega arith))
+    (ap (λ (b : Bool). b || goneBelow es n e) (and-zero (getD es n blank .«used_rx»)) ∙ none-above es n e (omega arith))
 
 pub below : (es : List EndpointData) (n e : ℕ) → e < n → goneBelow es n e ≡ getD es e blank .«used_rx»
 below es zero e h = absurd (omega arith)

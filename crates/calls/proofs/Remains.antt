@@ -152,7 +152,8 @@ module _ (k : Record) where
         where
           go : (z : Bool) → eqb i 0 ≡ z
               → Remain (λ e. eqb e i) k
-              (leaving k (cond z (readZero x n size (k .«control_state») (k .irq) (writeIndex i (begun k l))) (readOther (k .«control_state») (k .irq) (writeIndex i (begun k l)))))
+              (leaving k
+              (cond z (readZero x n size (k .«control_state») (k .irq) (writeIndex i (begun k l))) (readOther (k .«control_state») (k .irq) (writeIndex i (begun k l)))))
           go true p =
               let z = eqb-true i 0 p in
               by (λ e m. sym (ne-eqb e i (λ q. m (q ∙ z)))) (careful-remain (gets-zero k i n l s h x size))

@@ -10,7 +10,7 @@ use Rattle.record.specs.declared.Record.{Record}
 use Rattle.record.specs.Record.{recordSound, endpointsOf, needIn, needOf}
 use Rattle.peek.specs.Peek.{shortIn, short, rxPktRdy}
 use Rattle.read_tests.specs.Read as tests
-use Rattle.usb_device_read.specs.Replies.{unready, notReadable, notSetup, done}
+use Rattle.usb_device_read.specs.Replies.{Admitted, unready, notReadable, notSetup, done}
 use Rattle.usb_device_read.proofs.Answers.{exactly}
 use Rattle.calls.specs.Calls.{read}
 use Rattle.history.specs.Driver.{waiting, takes}
@@ -38,5 +38,6 @@ module _ (k : Record) (e : ℕ) (b f l : List ℕ) (high : e ≡ 0 → ⊥) wher
 
   pub read-answered : recordSound k ≡ true → e < endpointsOf k → needOf k ≤ length f → 384 ≤ length l → T (waiting k e) → T (takes k (read e b f l) e)
   read-answered passes low p q w =
-      let zero = exactly k e b f l 0 .1 (done (record { lent = enough p q; passes = passes; there = lt-leb (endpointsOf k) e low }) (there-is w) readable no-setup) in
+      let first : Admitted k e (length f) (length l) = record { lent = enough p q; passes = passes; there = lt-leb (endpointsOf k) e low } in
+      let zero = exactly k e b f l 0 .1 (done first (there-is w) readable no-setup) in
       subst (λ (m : ℕ). T (eqb m 0 && eqb e e)) (sym zero) (eqb-refl e)

@@ -112,36 +112,40 @@ module _ (B : Reports) (top : ℕ) (on : State → State) (ask : State → Polle
         excused = ap (B .excused) (a .bus) ∙ B .takes (s .bus) (s .raised) (s .gone);
       }
 
-  module _ (taking : (s : State) → Alike (taken s) (on s)) (asked : (s : State) → Does look s (ask s .event) (ask s .state)) (no-arrival : (s : State) (e : ℕ) → T (not (arrivesAt e (ask s .event)))) where
-    does : (s : State) (o : Op) → Does look s (event top on ask s o) (step top on ask s o)
-    does s (arrive e) = arrive-does s e (accepts top s e)
-    does s (collect e) = unchanged look s (step top on ask s (collect e)) refl refl refl refl refl
-    does s (take e) = unchanged look s (step top on ask s (take e)) refl refl refl refl refl
-    does s (raise b) = unchanged look s (step top on ask s (raise b)) refl refl refl refl refl
-    does s irq = takes-all s (taking s)
-    does s poll = asked s
+  module _
+      (taking : (s : State) → Alike (taken s) (on s))
+      (asked : (s : State) → Does look s (ask s .event) (ask s .state))
+      (no-arrival : (s : State) (e : ℕ) → T (not (arrivesAt e (ask s .event))))
+    where
+      does : (s : State) (o : Op) → Does look s (event top on ask s o) (step top on ask s o)
+      does s (arrive e) = arrive-does s e (accepts top s e)
+      does s (collect e) = unchanged look s (step top on ask s (collect e)) refl refl refl refl refl
+      does s (take e) = unchanged look s (step top on ask s (take e)) refl refl refl refl refl
+      does s (raise b) = unchanged look s (step top on ask s (raise b)) refl refl refl refl refl
+      does s irq = takes-all s (taking s)
+      does s poll = asked s
 
-    one-place : (s : State) (o : Op) (e : ℕ) → T (s .ready e) → T (not (arrivesAt e (event top on ask s o)))
-    one-place s (arrive i) e w = one-arrival s e i (accepts top s i) refl w
-    one-place s (collect i) e w = tt
-    one-place s (take i) e w = tt
-    one-place s (raise b) e w = tt
-    one-place s irq e w = tt
-    one-place s poll e w = no-arrival s e
+      one-place : (s : State) (o : Op) (e : ℕ) → T (s .ready e) → T (not (arrivesAt e (event top on ask s o)))
+      one-place s (arrive i) e w = one-arrival s e i (accepts top s i) refl w
+      one-place s (collect i) e w = tt
+      one-place s (take i) e w = tt
+      one-place s (raise b) e w = tt
+      one-place s irq e w = tt
+      one-place s poll e w = no-arrival s e
 
-    lawful : Lawful (machine top on ask) (λ s. T true) look
-    lawful =
-        record {
-          good-fresh = tt;
-          good-step = λ s o g. tt;
-          does = λ s o g. does s o;
-          one-place = λ s o e g. one-place s o e;
-          most = λ s. B .few (s .bus);
-          flag-fresh = λ j ep. refl;
-          due-fresh = λ j ep. refl;
-          sent-fresh = λ j ep. refl;
-          excused-fresh = B .at-first;
-        }
+      lawful : Lawful (machine top on ask) (λ s. T true) look
+      lawful =
+          record {
+            good-fresh = tt;
+            good-step = λ s o g. tt;
+            does = λ s o g. does s o;
+            one-place = λ s o e g. one-place s o e;
+            most = λ s. B .few (s .bus);
+            flag-fresh = λ j ep. refl;
+            due-fresh = λ j ep. refl;
+            sent-fresh = λ j ep. refl;
+            excused-fresh = B .at-first;
+          }
 
 -- a poll that is honest but for what it leaves waiting
 module _ (B : Reports) (top : ℕ) (on : State → State) (ask : State → Polled) where
@@ -210,9 +214,12 @@ module _ (top : ℕ) where
 
   polled-mended : (s : State) (r m u : Bool) → s .bus .reset ≡ r → s .bus .resume ≡ m → s .bus .suspend ≡ u
       → Does (look allThree top taken (mended top)) s (askedMended s r m u .event) (askedMended s r m u .state)
-  polled-mended s true m u er em eu = let c = ap count er in paused allThree top taken (mended top) s _ _ (same _) refl (omega (arith, c)) (λ a. omega (arith, c))
-  polled-mended s false true u er em eu = let c = ap count em in paused allThree top taken (mended top) s _ _ (same _) refl (omega (arith, c)) (λ a. omega (arith, c))
-  polled-mended s false false true er em eu = let c = ap count eu in paused allThree top taken (mended top) s _ _ (same _) refl (omega (arith, c)) (λ a. omega (arith, c))
+  polled-mended s true m u er em eu =
+      let c = ap count er in paused allThree top taken (mended top) s _ _ (same _) refl (omega (arith, c)) (λ a. omega (arith, c))
+  polled-mended s false true u er em eu =
+      let c = ap count em in paused allThree top taken (mended top) s _ _ (same _) refl (omega (arith, c)) (λ a. omega (arith, c))
+  polled-mended s false false true er em eu =
+      let c = ap count eu in paused allThree top taken (mended top) s _ _ (same _) refl (omega (arith, c)) (λ a. omega (arith, c))
   polled-mended s false false false er em eu = rounded allThree top taken (mended top) s _ (same _) (omega (arith, ap count er, ap count em, ap count eu))
 
   no-arrival : (s : State) (r m u : Bool) (e : ℕ) → T (not (arrivesAt e (asked s r m u .event)))
@@ -256,7 +263,9 @@ module _ (top : ℕ) where
   throwsAway-sentences = sentences thrower-lawful (round-after thrower-lawful)
 
   taker-lawful : Lawful (throwsTaken top) (λ s. T true) (look asIs top (λ s. thrown (taken s)) (honest top))
-  taker-lawful = lawful asIs top (λ s. thrown (taken s)) (honest top) (λ s. throws (taken s)) (polls-honestly (λ s. thrown (taken s)) (honest top) (λ s. s) same) none-comes
+  taker-lawful =
+      lawful asIs top (λ s. thrown (taken s)) (honest top) (λ s. throws (taken s))
+      (polls-honestly (λ s. thrown (taken s)) (honest top) (λ s. s) same) none-comes
 
   pub throwsTaken-sentences : Sentences (throwsTaken top)
   throwsTaken-sentences = sentences taker-lawful (round-after taker-lawful)
