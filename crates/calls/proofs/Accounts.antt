@@ -1,6 +1,6 @@
 -- What an account of a call is, and how one is put together from the call's steps. Assumes nothing.
 use Prim.Native.Nat.{ℕ, _^_, _<_}
-use mathlib.Core.Path.{_≡_, ap}
+use mathlib.Core.Path.{_≡_, refl, ap}
 use mathlib.Core.Bool.{Bool, true, false, cond}
 use mathlib.Core.List.{List, []}
 use mathlib.Core.Logic.{_⊎_, inl, inr}
@@ -12,6 +12,7 @@ use Rattle.board.specs.Boards.{rows}
 use Rattle.csr.specs.declared.Csr0lSet.{Csr0lSet}
 use Rattle.csr.specs.declared.TxcsrlSet.{TxcsrlSet}
 use Rattle.csr.specs.declared.RxcsrlSet.{RxcsrlSet}
+use Rattle.csr.specs.declared.RxcsrlSet.the-variants.{NoOverRun}
 use Rattle.regs.specs.declared.Regs.{Regs}
 use Rattle.stores.specs.Stores.{Log, log, modifyCsr0l, modifyTxcsrl, modifyRxcsrl}
 use Rattle.regs.specs.Control.{csr0lRead, txcsrlRead, rxcsrlRead}
@@ -24,7 +25,7 @@ use Rattle.record.specs.declared.Record.{Record}
 use Rattle.record.specs.declared.Admission.the-variants.{Clear}
 use Rattle.record.specs.Record.{recordSound, endpointsIn, endpointsOf, admissionBy}
 use Rattle.record.proofs.Rows.{none-refused}
-use Rattle.calls.proofs.Steps.{Step, one, Reached, none, then, Sane, Gentle, gentle-sane}
+use Rattle.calls.proofs.Steps.{Step, one, Reached, none, then, Sane, Gentle, Careful, gentle-sane, careful-gentle}
 
 -- reply 16: no "flag above bit 5", the board's own last endpoint being the highest
 abbrev pub Low : Board → Flags → Type 0
@@ -55,6 +56,9 @@ stores l g s r p c f = record { list = l; last = g; path = r; is = p; board = c;
 pub sane : {b : Board} {k q : Record} → Account (Gentle b) k q → Account (Sane b) k q
 sane a = record { list = a .list; last = a .last; path = gentle-sane (a .path); is = a .is; board = a .board; served = a .served; flags = a .flags }
 
+pub gentle : {b : Board} {k q : Record} → Account (Careful b) k q → Account (Gentle b) k q
+gentle a = record { list = a .list; last = a .last; path = careful-gentle (a .path); is = a .is; board = a .board; served = a .served; flags = a .flags }
+
 -- whichever a test decides for
 pub by-test : {A : Type 0} (P : A → Type 0) (t : Bool) {x y : A} → P x → P y → P (cond t x y)
 by-test P true p q = p
@@ -70,15 +74,19 @@ rxModify s h = rxcsrl (rxcsrlSet s (rxcsrlRead (h .regs)))
 abbrev pub zeroModify : Csr0lSet → Log → Store
 zeroModify s h = csr0l (csr0lSet s (csr0lRead (h .regs)))
 
-module _ {b : Board} {g h : Log} (r : Reached (Gentle b) g h) where
-  pub tx-modifies : (s : TxcsrlSet) → Reached (Gentle b) g (modifyTxcsrl s h)
-  tx-modifies s = rw (modify-txcsrl s h) (then r (one (txModify s h)) (tt, tx-modified s (h .regs)))
+module _ {b : Board} {g h : Log} (r : Reached (Careful b) g h) where
+  pub tx-modifies : (s : TxcsrlSet) → Reached (Careful b) g (modifyTxcsrl s h)
+  tx-modifies s = rw (modify-txcsrl s h) (then r (one (txModify s h)) ((tt, tx-modified s (h .regs)), inl tt))
+
+  pub zero-modifies : (s : Csr0lSet) → Reached (Careful b) g (modifyCsr0l s h)
+  zero-modifies s = rw (modify-csr0l s h) (then r (one (zeroModify s h)) ((tt, tt), inl tt))
+
+  -- a repaired overrun keeps the packet; any other `modify` of RXCSRL drops it
+  pub rx-repairs : Reached (Careful b) g (modifyRxcsrl NoOverRun h)
+  rx-repairs = rw (modify-rxcsrl NoOverRun h) (then r (one (rxModify NoOverRun h)) ((tt, rx-modified NoOverRun (h .regs)), inr refl))
 
   pub rx-modifies : (s : RxcsrlSet) → Reached (Gentle b) g (modifyRxcsrl s h)
-  rx-modifies s = rw (modify-rxcsrl s h) (then r (one (rxModify s h)) (tt, rx-modified s (h .regs)))
-
-  pub zero-modifies : (s : Csr0lSet) → Reached (Gentle b) g (modifyCsr0l s h)
-  zero-modifies s = rw (modify-csr0l s h) (then r (one (zeroModify s h)) (tt, tt))
+  rx-modifies s = rw (modify-rxcsrl s h) (then (careful-gentle r) (one (rxModify s h)) (tt, rx-modified s (h .regs)))
 
 -- reply 8 is not given: the endpoint is one of the board's
 pub there : (k : Record) (e : ℕ) → leb (endpointsOf k) e ≡ false → e < length (rows (k .regs .board))

@@ -32,5 +32,5 @@ module _ (k : Record) (o : Op) where
       let r : outcome k o .reply ≡ 6 = ap (λ (y : Outcome). y .reply) p in
       record { number = rw r a; kept = λ zero six. absurd (six r); six = λ _. (e, b, p) }
 
-  pub answers : Answers k o
-  answers = answers-of (ends k o)
+  pub demand-1 : Answers k o
+  demand-1 = answers-of (ends k o)

@@ -5,6 +5,7 @@ use mathlib.Core.Logic.{_⊎_, inl, inr}
 use Rattle.csr.specs.declared.Side.{Side}
 use Rattle.regs.specs.Registers.{File, Whole, sideAt}
 use Rattle.stores.specs.Promise.{SameHalts}
+use Rattle.events.specs.Promise.{Event}
 use Rattle.events.proofs.Halts as events
 use Rattle.record.specs.declared.Record.{Record}
 use Rattle.record.specs.Record.{recordSound}
@@ -32,9 +33,9 @@ module _ (k : Record) where
       go (inl p) = unchanged p
       go (inr s) = through (a .is) (same-halts (a .path) (to-holds k (record-is-sound k s) six))
 
-  event-halts : {q : Record} → Whole (k .regs .words) → Happens k q → SameHalts (k .regs .words) (q .regs .words)
+  event-halts : {o : Event} {q : Record} → Whole (k .regs .words) → Happens o k q → SameHalts (k .regs .words) (q .regs .words)
   event-halts six (refused p) = unchanged (ap (λ (x : Record). x .regs .words) p)
-  event-halts six (happened o i f c p s) = through p (events.halts o (k .regs .words) six i)
+  event-halts {o} six (happened i f c p s) = through p (events.halts o (k .regs .words) six i)
 
   interrupt-halts : {q : Record} → Interrupts k q → SameHalts (k .regs .words) (q .regs .words)
   unfolding interrupted

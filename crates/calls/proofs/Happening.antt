@@ -48,9 +48,9 @@ Fits b resume = Unit
 Fits b setupend = Unit
 Fits b (miss e d) = Unit
 
-pub data Happens (k q : Record) : Type 0 where
-  refused : q ≡ k → Happens k q
-  happened : (o : Event) → at o < 6 → Fits (k .regs .board) o → q .regs .board ≡ k .regs .board → q .regs .words ≡ happens o (k .regs .words) → q .irq ≡ k .irq → Happens k q
+pub data Happens (o : Event) (k q : Record) : Type 0 where
+  refused : q ≡ k → Happens o k q
+  happened : at o < 6 → Fits (k .regs .board) o → q .regs .board ≡ k .regs .board → q .regs .words ≡ happens o (k .regs .words) → q .irq ≡ k .irq → Happens o k q
 
 -- what an event leaves of a side that passes reply 16
 received-ok : (n size : ℕ) (s : Side) → n ≤ size → SideOk size (received n s)
@@ -92,23 +92,23 @@ module _ (k : Record) where
   abbrev b : Board
   b = k .regs .board
 
-  unless-refused : (o : Event) (t : Admission) → (t ≡ Clear → (at o < 6) × Fits b o) → Happens k (host.unless t k (happens o (k .regs .words)) .«record»)
+  unless-refused : (o : Event) (t : Admission) → (t ≡ Clear → (at o < 6) × Fits b o) → Happens o k (host.unless t k (happens o (k .regs .words)) .«record»)
   unless-refused o (Refused x) f = refused refl
-  unless-refused o Clear f = let p = f refl in happened o (p .0) (p .1) refl refl refl
+  unless-refused o Clear f = let p = f refl in happened (p .0) (p .1) refl refl refl
 
-  pub bus-reset : Happens k (host.busResetCall k .«record»)
+  pub bus-reset : Happens reset k (host.busResetCall k .«record»)
   unfolding host.busResetCall
   bus-reset = unless-refused reset (admissionBy false (recordSound k) false) (λ c. (lit< tt, tt))
 
-  pub bus-suspend : Happens k (host.suspendCall k .«record»)
+  pub bus-suspend : Happens suspend k (host.suspendCall k .«record»)
   unfolding host.suspendCall
   bus-suspend = unless-refused suspend (admissionBy false (recordSound k) false) (λ c. (lit< tt, tt))
 
-  pub bus-resume : Happens k (host.resumeCall k .«record»)
+  pub bus-resume : Happens resume k (host.resumeCall k .«record»)
   unfolding host.resumeCall
   bus-resume = unless-refused resume (admissionBy false (recordSound k) false) (λ c. (lit< tt, tt))
 
-  pub setup-end : Happens k (host.setupEndCall k .«record»)
+  pub setup-end : Happens setupend k (host.setupEndCall k .«record»)
   unfolding host.setupEndCall
   setup-end = unless-refused setupend (admissionBy false (recordSound k) false) (λ c. (lit< tt, tt))
 
@@ -116,17 +116,17 @@ module _ (k : Record) where
   right true y p = clash p
   right false y p = p
 
-  missed : (e : ℕ) (d : Direction) → Happens k (host.missCall k e d .«record»)
+  missed : (e : ℕ) (d : Direction) → Happens (miss e d) k (host.missCall k e d .«record»)
   unfolding host.missCall recordSound endpointsOf
   missed e d =
       unless-refused (miss e d) (host.missRefusal k e)
       (λ c. (le-trans (there k e (right (eqb e 0) (host.beyond k e) (none-refused false (recordSound k) _ c .2))) (at-most-six b), tt))
 
-  pub underrun : (e : ℕ) → Happens k (host.underrunCall k e .«record»)
+  pub underrun : (e : ℕ) → Happens (miss e In) k (host.underrunCall k e .«record»)
   unfolding host.underrunCall
   underrun e = missed e In
 
-  pub overrun : (e : ℕ) → Happens k (host.overrunCall k e .«record»)
+  pub overrun : (e : ℕ) → Happens (miss e Out) k (host.overrunCall k e .«record»)
   unfolding host.overrunCall
   overrun e = missed e Out
 
@@ -144,11 +144,11 @@ module _ (k : Record) where
       own Clear false false e = (refl, refl)
 
   unless-arrived : (e n : ℕ) (f x : List ℕ) (t : Admission) → (t ≡ Clear → (e < 6) × (n ≤ areaAt (rows b) e Out .size))
-      → Happens k (host.unlessArrived t k f (record { event = host.done k (arrived (k .regs .words) e n); fifo = x }) .event .«record»)
+      → Happens (arrival e n) k (host.unlessArrived t k f (record { event = host.done k (arrived (k .regs .words) e n); fifo = x }) .event .«record»)
   unless-arrived e n f x (Refused y) h = refused refl
-  unless-arrived e n f x Clear h = let q = h refl in happened (arrival e n) (q .0) (q .1) refl refl refl
+  unless-arrived e n f x Clear h = let q = h refl in happened (q .0) (q .1) refl refl refl
 
-  pub arrival-comes : (e : ℕ) (x f : List ℕ) → Happens k (host.arrivalCall k e x f .event .«record»)
+  pub arrival-comes : (e : ℕ) (x f : List ℕ) → Happens (arrival e (length x)) k (host.arrivalCall k e x f .event .«record»)
   unfolding host.arrivalCall
   arrival-comes e x f = unless-arrived e (length x) f _ (host.arrivalRefusal k e (length x) (length f)) (arrives e (length x) (length f))
 
@@ -160,13 +160,13 @@ module _ (k : Record) where
       own (Refused x) waits e = laws.never e
       own Clear waits e = refl
 
-  pub collection-comes : (e : ℕ) (f : List ℕ) → Happens k (host.collectionCall k e f .«record»)
+  pub collection-comes : (e : ℕ) (f : List ℕ) → Happens (collection e) k (host.collectionCall k e f .«record»)
   unfolding host.collectionCall host.collectedFrom
   collection-comes e f = go (host.collectionRefusal k e (length f)) refl
     where
-      go : (t : Admission) → host.collectionRefusal k e (length f) ≡ t → Happens k (host.unlessCollected t k (host.collectedFrom k e) .«record»)
+      go : (t : Admission) → host.collectionRefusal k e (length f) ≡ t → Happens (collection e) k (host.unlessCollected t k (host.collectedFrom k e) .«record»)
       go (Refused y) p = refused refl
-      go Clear p = happened (collection e) (collects e (length f) p) tt refl refl refl
+      go Clear p = happened (collects e (length f) p) tt refl refl refl
 
 -- "Interrupt registers clear when read": nothing else of the registers changes
 pub cleared-side : (r : File) (e : ℕ) (d : Direction) → sideAt (cleared r) e d ≡ sideAt r e d

@@ -11,11 +11,12 @@ use Rattle.record.specs.declared.Record.{Record}
 use Rattle.record.specs.Record.{freshRecord, recordSound, areaIn, areaOf, SoundRecord}
 use Rattle.record.proofs.Areas.{size-at}
 use Rattle.record.proofs.Passing.{fresh-passes}
+use Rattle.events.specs.Promise.{Event}
 use Rattle.usb_device_interrupt.specs.Interrupt.{interrupted, interruptBy, interruptCall}
 use Rattle.calls.specs.Calls.{Op, allocEp, busInit, enable, reset, setDeviceAddress, write, read, setStalled, isStalled, poll, onInterrupt, forceReset, arrival, collection, busReset, suspend, resume, setupEnd, underrun, overrun, step}
 use Rattle.calls.specs.Kept.{Good, Pending, Stores, WritesStall}
 use Rattle.calls.proofs.Steps.{Sane, Gentle, Holds, keeps, holds}
-use Rattle.calls.proofs.Accounts.{Low, Account, left, sane}
+use Rattle.calls.proofs.Accounts.{Low, Account, left, sane, gentle as softer}
 use Rattle.calls.proofs.Simple as simple
 use Rattle.calls.proofs.Writing as writing
 use Rattle.calls.proofs.Reading as reading
@@ -62,7 +63,7 @@ pub data Interrupts (k q : Record) : Type 0 where
   refused : q ≡ k → Interrupts k q
   taken : recordSound k ≡ true → q ≡ interrupted k → Interrupts k q
 
-on-interrupt : (k : Record) → Interrupts k (interruptCall k .«record»)
+pub on-interrupt : (k : Record) → Interrupts k (interruptCall k .«record»)
 unfolding interruptCall
 on-interrupt k = go (recordSound k) refl
   where
@@ -74,20 +75,20 @@ on-interrupt k = go (recordSound k) refl
 pub data Accounted (k : Record) (o : Op) : Type 0 where
   gentle : Account (Gentle (k .regs .board)) k (step k o) → Accounted k o
   stalling : WritesStall o → Account (Sane (k .regs .board)) k (step k o) → Accounted k o
-  event : (Stores o → ⊥) → Happens k (step k o) → Accounted k o
+  event : {v : Event} → (Stores o → ⊥) → Happens v k (step k o) → Accounted k o
   interrupt : (Stores o → ⊥) → Interrupts k (step k o) → Accounted k o
 
 pub account : (k : Record) (o : Op) → Whole (k .regs .words) → Accounted k o
-account k (allocEp q w) six = gentle (simple.alloc-ep k q w)
-account k (busInit l) six = gentle (simple.bus-init k l)
-account k (enable l) six = gentle (simple.enable k l)
+account k (allocEp q w) six = gentle (softer (simple.alloc-ep k q w))
+account k (busInit l) six = gentle (softer (simple.bus-init k l))
+account k (enable l) six = gentle (softer (simple.enable k l))
 account k (reset l) six = stalling tt (simple.reset k l)
-account k (setDeviceAddress a l) six = gentle (simple.set-device-address k a l)
-account k (write e b f l) six = gentle (writing.write k e b f l six)
+account k (setDeviceAddress a l) six = gentle (softer (simple.set-device-address k a l))
+account k (write e b f l) six = gentle (softer (writing.write k e b f l six))
 account k (read e b f l) six = gentle (reading.read k e b f l)
 account k (setStalled e d s l) six = stalling tt (simple.set-stalled k e d s l)
-account k (isStalled e d l) six = gentle (simple.is-stalled k e d l)
-account k (poll l) six = gentle (polling.poll k l)
+account k (isStalled e d l) six = gentle (softer (simple.is-stalled k e d l))
+account k (poll l) six = gentle (softer (polling.poll k l))
 account k onInterrupt six = interrupt (λ c. c) (on-interrupt k)
 account k forceReset six = gentle (left refl refl)
 account k (arrival e b f) six = event (λ c. c) (happening.arrival-comes k e b f)
@@ -104,9 +105,9 @@ module _ (k : Record) where
   call-good : {q : Record} → Account (Sane (k .regs .board)) k q → Good k → Good q
   call-good {q} a g = good-after q (a .board) (a .is) (holds (a .path) (to-holds k (g .sound) (g .six))) (a .flags (g .sound .tx, g .sound .rx))
 
-  event-good : {q : Record} → Happens k q → Good k → Good q
+  event-good : {o : Event} {q : Record} → Happens o k q → Good k → Good q
   event-good (not-happened p) g = subst Good (sym p) g
-  event-good {q} (happened o i f c p s) g =
+  event-good {o} {q} (happened i f c p s) g =
       good-after q c p (happens-holds (k .regs .board) o (k .regs .words) i f (to-holds k (g .sound) (g .six))) (rw s (g .sound .tx, g .sound .rx))
 
   interrupt-good : {q : Record} → Interrupts k q → Good k → Good q
@@ -127,9 +128,9 @@ good-step k o g = good-of k (account k o (g .six)) g
 
 -- no operation changes the board
 module _ (k : Record) where
-  event-board : {q : Record} → Happens k q → q .regs .board ≡ k .regs .board
+  event-board : {o : Event} {q : Record} → Happens o k q → q .regs .board ≡ k .regs .board
   event-board (not-happened p) = ap (λ (x : Record). x .regs .board) p
-  event-board (happened o i f c p s) = c
+  event-board (happened i f c p s) = c
 
   interrupt-board : {q : Record} → Interrupts k q → q .regs .board ≡ k .regs .board
   unfolding interrupted

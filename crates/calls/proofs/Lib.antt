@@ -1,5 +1,7 @@
+pub mod Packets
 pub mod Steps
 pub mod Accounts
+pub mod Dropping
 pub mod Simple
 pub mod Writing
 pub mod Reading
@@ -7,5 +9,6 @@ pub mod Polling
 pub mod Happening
 pub mod Kept
 pub mod Halts
+pub mod Remains
 pub mod Ends
 pub mod Demand

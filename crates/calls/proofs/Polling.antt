@@ -3,7 +3,7 @@ use Prim.Native.Nat.{ℕ, zero, suc, _+_, _-_, _^_, _≤_, _<_}
 use mathlib.Core.Path.{_≡_, refl, sym, _∙_}
 use mathlib.Core.Bool.{Bool, true, false, cond}
 use mathlib.Core.List.{List, [], _∷_, foldl}
-use mathlib.Core.Logic.{inr}
+use mathlib.Core.Logic.{inl, inr}
 use native.Mathlib.Omega.{arith}
 use native.Mathlib.Nat.{div-eq-of-lt, pow-le-pow-right, le-trans, lt-of-not-le, zero-lt-suc}
 use native.Mathlib.Decide.{decLe}
@@ -16,7 +16,6 @@ use Rattle.board.specs.declared.Board.{Board}
 use Rattle.board.specs.Boards.{rows, at-least-one}
 use Rattle.csr.specs.declared.Csr0lSet.the-variants.{ServicedSetupEnd}
 use Rattle.csr.specs.declared.TxcsrlSet.the-variants.{NoUnderRun}
-use Rattle.csr.specs.declared.RxcsrlSet.the-variants.{NoOverRun}
 use Rattle.regs.specs.Control.{csr0lRead, txcsrlRead, rxcsrlRead, count0}
 use Rattle.stores.specs.Stores.{Log, log, writeIndex}
 use Rattle.stores.specs.Promise.{index}
@@ -35,8 +34,8 @@ use Rattle.poll_zero.specs.Round.{Round, round, withEp0, sentBy, setupTaken, re
 use Rattle.poll_walk.specs.Round.{Walk, walk, readyAt, drained, visit, walked}
 use Rattle.usb_device_poll.specs.Poll.{After, outcomeOf, ended, walkedOn, acceptedOn, roundOut, pollBy, pollLogged, pollServed, pollWhen, pollAdmitted, pollCall}
 use Rattle.laws.proofs.Tests.{clash}
-use Rattle.calls.proofs.Steps.{Reached, none, then, one, Gentle}
-use Rattle.calls.proofs.Accounts.{Low, Account, left, by-test, tx-modifies, rx-modifies, zero-modifies, passes}
+use Rattle.calls.proofs.Steps.{Reached, none, then, one, Careful}
+use Rattle.calls.proofs.Accounts.{Low, Account, left, by-test, tx-modifies, rx-repairs, zero-modifies, passes}
 
 -- words below 2 ^ n: their set bits are below n, and a bit cleared makes none above
 cleared-low : (m w e : ℕ) → w < m → clear w e < m
@@ -74,15 +73,15 @@ set-below n w h = bits-below n w 6 [] h tt
 
 module _ (b : Board) (g : Log) where
   abbrev Path : Log → Type 0
-  Path h = Reached (Gentle b) g h
+  Path h = Reached (Careful b) g h
 
   -- the overrun check
   repair : (h : Log) (e : ℕ) → e < length (rows b) → Path h → Path (repaired h e)
   unfolding repaired underRunCleared overRunCleared
   repair h e i r =
-      let p = then r (one (index e)) (i, tt) in
+      let p = then r (one (index e)) ((i, tt), inl tt) in
       let q = by-test Path (txcsrlRead (writeIndex e h .regs) .«under_run») (tx-modifies p NoUnderRun) p in
-      by-test Path (rxcsrlRead (underRunCleared (writeIndex e h) .regs) .«over_run») (rx-modifies q NoOverRun) q
+      by-test Path (rxcsrlRead (underRunCleared (writeIndex e h) .regs) .«over_run») (rx-repairs q) q
 
   repair-all : (m i : ℕ) (h : Log) → i + m ≤ length (rows b) → Path h → Path (foldl repaired h (numbers i m))
   unfolding numbers
@@ -140,7 +139,7 @@ module _ (b : Board) (g : Log) where
   unfolding endpointZero
   zero-fine h c f r low =
       by-test Fine (f .ep0) {x = zeroServed (writeIndex 0 h) c f} {y = round h c f false}
-      (served-fine (writeIndex 0 h) c f (then r (one (index 0)) (at-least-one b, tt)) low) (r, low)
+      (served-fine (writeIndex 0 h) c f (then r (one (index 0)) ((at-least-one b, tt), inl tt)) low) (r, low)
 
   back-low : (f : Flags) → Low b f → Low b (putBack f)
   unfolding putBack
@@ -161,7 +160,7 @@ module _ (b : Board) (g : Log) where
   unfolding visit drained
   visits flags [] o h a r k = (r, k)
   visits flags (e ∷ es) o h a r k =
-      visits flags es (visit flags o e) h (a .1) (then r (one (index e)) (a .0, tt))
+      visits flags es (visit flags o e) h (a .1) (then r (one (index e)) ((a .0, tt), inl tt))
       (by-test (λ (w : ℕ). w < 2 ^ length (rows b)) (readyAt e (writeIndex e (o .log) .regs)) k (cleared-low _ flags e h))
 
   abbrev Ends : After → Type 0
@@ -202,12 +201,12 @@ module _ (k : Record) (l : List ℕ) where
       by-flags board start (k .irq .reset) (k .irq .resume) (k .irq .suspend) _ (k .«control_state») (k .irq)
       (repair-all board start _ 1 start (omega (arith, at-least-one board)) none) f
 
-  pub poll : Account (Gentle board) k (pollCall k l .result .«record»)
+  pub poll : Account (Careful board) k (pollCall k l .result .«record»)
   unfolding pollCall pollAdmitted recordSound
   poll = go (admissionBy (ltb (length l) 384) (recordSound k) false) refl
     where
       go : (t : Admission) → admissionBy (ltb (length l) 384) (recordSound k) false ≡ t
-          → Account (Gentle board) k (outcomeOf k (pollWhen t board start (k .«control_state») (k .irq)) .result .«record»)
+          → Account (Careful board) k (outcomeOf k (pollWhen t board start (k .«control_state») (k .irq)) .result .«record»)
       go (Refused x) e = left refl refl
       go Clear e =
           let s = passes (ltb (length l) 384) (recordSound k) false e in

@@ -3,6 +3,7 @@ use Prim.Native.Nat.{ℕ, _<_}
 use mathlib.Core.Path.{_≡_, refl, sym, ap, subst, _∙_}
 use mathlib.Core.Bool.{true}
 use mathlib.Core.List.{List}
+use mathlib.Core.Logic.{inl}
 use lib.Dec.{eqb, ltb, leb}
 use lib.ListN.{length}
 use Rattle.board.specs.declared.Board.{Board}
@@ -24,8 +25,8 @@ use Rattle.usb_device_read.specs.Read.{ReadOutcome, readOther, got, taken, read
 use Rattle.usb_device_read.specs.Replies.{unready, notReadable, notSetup, Given, done as granted, blocks, beyond, unreadable, unset, little, unsound}
 use Rattle.usb_device_read.proofs.Verdicts.{told}
 use Rattle.usb_device_read.proofs.Answers.{tested, by-tests, exactly}
-use Rattle.calls.proofs.Steps.{Reached, none, then, one, Gentle}
-use Rattle.calls.proofs.Accounts.{Account, left, stores, by-test, rx-modifies, zero-modifies, there}
+use Rattle.calls.proofs.Steps.{Reached, none, then, one, Gentle, Careful, careful-gentle}
+use Rattle.calls.proofs.Accounts.{Account, left, stores, gentle, by-test, rx-modifies, zero-modifies, there}
 
 module _ (k : Record) (ep n : ℕ) (l : List ℕ) (s : recordSound k ≡ true) (i : ep < length (rows (k .regs .board))) where
   abbrev b : Board
@@ -35,13 +36,13 @@ module _ (k : Record) (ep n : ℕ) (l : List ℕ) (s : recordSound k ≡ true) (
   begun = log (k .regs .words) l 0
 
   abbrev Path : Log → Type 0
-  Path h = Reached (Gentle b) begun h
+  Path h = Reached (Careful b) begun h
 
   abbrev Fine : After → Type 0
-  Fine o = Account (Gentle b) k (leaving k o)
+  Fine o = Account (Careful b) k (leaving k o)
 
-  selects : Path (writeIndex ep begun)
-  selects = then none (one (index ep)) (i, tt)
+  pub selects : Path (writeIndex ep begun)
+  selects = then none (one (index ep)) ((i, tt), inl tt)
 
   finish : (c : ControlState) (g : Log) → Path g → Fine (after c (k .irq) g)
   finish c g r = stores l g s r refl refl refl
@@ -66,15 +67,20 @@ module _ (k : Record) (ep n : ℕ) (l : List ℕ) (s : recordSound k ≡ true) (
   at-zero Accepted x size c g r = finish c g r
   at-zero NodataPhase x size c g r = finish c g r
 
-  gets : (x : List ℕ) (size : ℕ) → Fine (got ep x n size (k .«control_state») (k .irq) (writeIndex ep begun))
-  unfolding got readZero readOther
+  -- endpoint 0's packet is not one of 1 to 5
+  pub gets-zero : (x : List ℕ) (size : ℕ) → Fine (readZero x n size (k .«control_state») (k .irq) (writeIndex ep begun))
+  unfolding readZero
+  gets-zero x size = at-zero (k .«control_state» .state) x size (k .«control_state») _ (zero-modifies selects csr0l.ServicedRxPktRdy)
+
+  gets : (x : List ℕ) (size : ℕ) → Account (Gentle b) k (leaving k (got ep x n size (k .«control_state») (k .irq) (writeIndex ep begun)))
+  unfolding got readOther
   gets x size =
-      by-test Fine (eqb ep 0) (at-zero (k .«control_state» .state) x size (k .«control_state») _ (zero-modifies selects csr0l.ServicedRxPktRdy))
-      (finish (k .«control_state») _ (rx-modifies selects rxcsrl.NoRxPktRdy))
+      by-test (λ (o : After). Account (Gentle b) k (leaving k o)) (eqb ep 0) (gentle (gets-zero x size))
+      (stores l _ s (rx-modifies selects rxcsrl.NoRxPktRdy) refl refl refl)
 
 module _ (k : Record) (ep : ℕ) (b f l : List ℕ) where
   -- the tests, one beside the other
-  abbrev tests : Verdict
+  abbrev pub tests : Verdict
   tests =
       testsBy (admissionBy (short k (length f) (length l)) (recordSound k) (leb (endpointsOf k) ep))
       (ownTests (unready k ep) (notReadable k ep) (notSetup k ep (length b)))
@@ -84,7 +90,7 @@ module _ (k : Record) (ep : ℕ) (b f l : List ℕ) where
   unfolding taken blocked
   by-row (granted a s t u) = rw (a .lent, a .passes, a .there, s, t, u) (gets k ep _ l (a .passes) (there k ep (a .there)) _ (rxSize k))
   by-row (blocks a s) =
-      rw (a .lent, a .passes, a .there, s) (stores l _ (a .passes) (selects k ep 0 l (a .passes) (there k ep (a .there))) refl refl refl)
+      rw (a .lent, a .passes, a .there, s) (stores l _ (a .passes) (careful-gentle (selects k ep 0 l (a .passes) (there k ep (a .there)))) refl refl refl)
   by-row (beyond p q r) = rw (p, q, r) (left refl refl)
   by-row (unreadable a s t) = rw (a .lent, a .passes, a .there, s, t) (left refl refl)
   by-row (unset a s t u) = rw (a .lent, a .passes, a .there, s, t, u) (left refl refl)

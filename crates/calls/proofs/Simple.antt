@@ -3,6 +3,7 @@ use Prim.Native.Nat.{ℕ, zero, suc, _<_, _≤_}
 use mathlib.Core.Path.{_≡_, refl}
 use mathlib.Core.Bool.{Bool, true, false, not}
 use mathlib.Core.List.{List}
+use mathlib.Core.Logic.{inl}
 use native.Mathlib.Omega.{arith}
 use borrow.Author.Tests.{leb-true}
 use lib.Dec.{eqb, leb, lit≤}
@@ -35,7 +36,7 @@ use Rattle.usb_device_impl.specs.Calls.{stored, unless, short, begun, beyond, b
 use Rattle.usb_device_reset.specs.Calls.{txEnabled, rxEnabled, usedEnabled, enabledBelow, resetStores, resetCall}
 use Rattle.usb_device_stall.specs.Calls.{epStall, afterStall, setStalledCall, toldOf, unlessTold, isStalledCall}
 use Rattle.usb_device_alloc.specs.Calls.{unlessAllocated, allocEp, allocEpCall}
-use Rattle.calls.proofs.Steps.{Step, one, Reached, none, then, Sane, Gentle}
+use Rattle.calls.proofs.Steps.{Step, one, Reached, none, then, Sane, Careful}
 use Rattle.calls.proofs.Accounts.{Account, left, stores, by-test, txModify, rxModify, zeroModify, passes, below}
 
 -- the tests of a call, and of one at an endpoint
@@ -63,46 +64,46 @@ module _ {May : Step → Log → Type 0} (k : Record) (l : List ℕ) where
   told-unless b g (Refused x) s f = left refl refl
   told-unless b g Clear s f = stores l g (s refl) (f refl) refl refl refl
 
--- the calls that leave SendStall alone
+-- the calls that leave SendStall and what waits alone
 module _ (k : Record) where
   abbrev b : Board
   b = k .regs .board
 
-  pub alloc-ep : (q : Ask) (w : Wanted) → Account (Gentle b) k (allocEpCall k q w .«record»)
+  pub alloc-ep : (q : Ask) (w : Wanted) → Account (Careful b) k (allocEpCall k q w .«record»)
   unfolding allocEpCall allocEp
   alloc-ep q w = go (admissionBy false (recordSound k) false)
     where
-      go : (t : Admission) → Account (Gentle b) k (unlessAllocated t k (allocEp k q w) .«record»)
+      go : (t : Admission) → Account (Careful b) k (unlessAllocated t k (allocEp k q w) .«record»)
       go (Refused x) = left refl refl
       go Clear = left refl refl
 
-  pub bus-init : (l : List ℕ) → Account (Gentle b) k (busInitCall k l .call .«record»)
+  pub bus-init : (l : List ℕ) → Account (Careful b) k (busInitCall k l .call .«record»)
   unfolding busInitCall busInit
   bus-init l =
       unless-refused k l (k .«control_state») _ (lent k l) (lent-passes k l)
-      (λ c. then (then (then none (one intrusbe) (tt, tt)) (one (intre Out 254)) (tt, tt)) (one (intre In 255)) (tt, tt))
+      (λ c. then (then (then none (one intrusbe) ((tt, tt), inl tt)) (one (intre Out 254)) ((tt, tt), inl tt)) (one (intre In 255)) ((tt, tt), inl tt))
 
-  pub enable : (l : List ℕ) → Account (Gentle b) k (enableCall k l .call .«record»)
+  pub enable : (l : List ℕ) → Account (Careful b) k (enableCall k l .call .«record»)
   unfolding enableCall
-  enable l = unless-refused k l (k .«control_state») _ (lent k l) (lent-passes k l) (λ c. then none (one (faddr 0)) (lit≤ tt, tt))
+  enable l = unless-refused k l (k .«control_state») _ (lent k l) (lent-passes k l) (λ c. then none (one (faddr 0)) ((lit≤ tt, tt), inl tt))
 
-  pub set-device-address : (a : ℕ) (l : List ℕ) → Account (Gentle b) k (addressCall k a l .call .«record»)
+  pub set-device-address : (a : ℕ) (l : List ℕ) → Account (Careful b) k (addressCall k a l .call .«record»)
   unfolding addressCall
   set-device-address a l =
       unless-refused k l (k .«control_state») _ (addressEntry (lent k l) (leb a 127))
       (λ c. lent-passes k l (passed (lent k l) (leb a 127) c .0))
-      (λ c. then none (one (faddr a)) (leb-true a 127 (passed (lent k l) (leb a 127) c .1), tt))
+      (λ c. then none (one (faddr a)) ((leb-true a 127 (passed (lent k l) (leb a 127) c .1), tt), inl tt))
     where
       passed : (t : Admission) (fits : Bool) → addressEntry t fits ≡ Clear → (t ≡ Clear) × (fits ≡ true)
       passed (Refused x) fits c = (c, never c)
       passed Clear true c = (refl, refl)
       passed Clear false c = never c
 
-  pub is-stalled : (e : ℕ) (d : Direction) (l : List ℕ) → Account (Gentle b) k (isStalledCall k e d l .call .«record»)
+  pub is-stalled : (e : ℕ) (d : Direction) (l : List ℕ) → Account (Careful b) k (isStalledCall k e d l .call .«record»)
   unfolding isStalledCall
   is-stalled e d l =
       told-unless k l (isStalled d e (begun k l)) _ (lentAt k e l) (at-passes k e l)
-      (λ c. then none (one (index e)) (below k e (short l) (recordSound k) c, tt))
+      (λ c. then none (one (index e)) ((below k e (short l) (recordSound k) c, tt), inl tt))
 
 -- stalling and the reset call, which write SendStall
 module _ (b : Board) (g : Log) where

@@ -27,6 +27,7 @@ use Rattle.stores.proofs.Promises.{sides, rest}
 use Rattle.stores.proofs.Others.{clean}
 use Rattle.stores.proofs.Halts.{SameStall, halts}
 use Rattle.laws.proofs.Tests.{clash}
+use Rattle.calls.proofs.Packets.{Apart, Spares, leaves-apart, leaves-ready}
 use Rattle.csr.proofs.Tame.{Tame, stays-ok, same, either, one-way, alike, tx-tame, rx-tame, zero-tame, dropped-tame}
 
 -- A step is a store, or a packet with the store that sets its ready bit: between these two a length stands with its ready bit clear.
@@ -86,6 +87,17 @@ Gentle b s g = Sane b s g × SameStalls s g
 
 pub gentle-sane : {b : Board} {g h : Log} → Reached (Gentle b) g h → Reached (Sane b) g h
 gentle-sane r = weaken (λ s x m. m .0) r
+
+-- and no packet that waits to be read at 1 to 5 is dropped
+abbrev pub Sparing : Step → Log → Type 0
+Sparing (one o) g = Spares o (g .regs)
+Sparing (sent n o) g = Apart o
+
+abbrev pub Careful : Board → Step → Log → Type 0
+Careful b s g = Gentle b s g × Sparing s g
+
+pub careful-gentle : {b : Board} {g h : Log} → Reached (Careful b) g h → Reached (Gentle b) g h
+careful-gentle r = weaken (λ s x m. m .0) r
 
 -- the parts of the registers that any step keeps: the pending interrupts, and that there are 46 numbers
 pub record Same (r q : File) : Type 0 where
@@ -268,3 +280,23 @@ same-halts (then {h} r (sent x o) m) k e d n =
     halts o (does (packet x) h) (u .six) (within-six u) (m .1) e d n
     ∙ halts (packet x) h (t .standing .six) (within-six (t .standing)) tt e d n
     ∙ same-halts r k e d n
+
+-- RxPktRdy of endpoints 1 to 5
+abbrev pub SameReady : File → File → Type 0
+SameReady r q = (e : ℕ) → (e ≡ 0 → ⊥) → sideAt q e Out .ready ≡ sideAt r e Out .ready
+
+pub same-ready : {b : Board} {g h : Log} → Reached (Careful b) g h → Holds b (g .regs) → SameReady (g .regs) (h .regs)
+same-ready none k e n = refl
+same-ready (then {h} r (one o) m) k e n =
+    let t = holds (gentle-sane (careful-gentle r)) k in
+    ap (λ (s : Side). s .ready) (sides o h e Out (t .standing .six) (within-six (t .standing)))
+    ∙ leaves-ready o (h .regs) e n (λ i. t .side i Out .none) (m .1)
+    ∙ same-ready r k e n
+same-ready (then {h} r (sent x o) m) k e n =
+    let t = holds (gentle-sane (careful-gentle r)) k in
+    let u = amid x o h (m .0 .0) t in
+    ap (λ (s : Side). s .ready) (sides o (does (packet x) h) e Out (u .six) (within-six u))
+    ∙ leaves-apart o (file.index (does (packet x) h .regs)) e (sideAt (does (packet x) h .regs) e Out) n (m .1)
+    ∙ ap (λ (s : Side). s .ready) (sides (packet x) h e Out (t .standing .six) (within-six (t .standing)))
+    ∙ leaves-apart (packet x) (file.index (h .regs)) e (sideAt (h .regs) e Out) n tt
+    ∙ same-ready r k e n

@@ -3,7 +3,7 @@ use Prim.Native.Nat.{ℕ, _≤_, _<_}
 use mathlib.Core.Path.{_≡_, refl, sym, ap, subst, _∙_}
 use mathlib.Core.Bool.{Bool, true, false, not, _&&_, cond}
 use mathlib.Core.List.{List}
-use mathlib.Core.Logic.{inr}
+use mathlib.Core.Logic.{inl, inr}
 use borrow.Author.Tests.{eq-eqb, eqb-true, ltb-false}
 use lib.Dec.{eqb, ltb, leb}
 use lib.ListN.{length}
@@ -41,7 +41,7 @@ use Rattle.usb_device_write.proofs.Verdicts.{tests-are}
 use Rattle.usb_device_write.proofs.Answers.{call-is, exactly}
 use Rattle.laws.proofs.Tests.{clash}
 use Rattle.calls.proofs.Steps as steps
-use Rattle.calls.proofs.Steps.{Reached, none, then, one, Gentle, Readies}
+use Rattle.calls.proofs.Steps.{Reached, none, then, one, Careful, Readies}
 use Rattle.calls.proofs.Accounts.{Low, Account, left, stores, by-test, txModify, zeroModify, zero-modifies, there}
 
 -- TxPktRdy is set
@@ -65,13 +65,13 @@ module _ (k : Record) (ep n : ℕ) (l : List ℕ) (s : recordSound k ≡ true) (
   chose = writeIndex ep begun
 
   abbrev Path : Log → Type 0
-  Path h = Reached (Gentle b) begun h
+  Path h = Reached (Careful b) begun h
 
   abbrev Fine : After → Type 0
-  Fine o = Account (Gentle b) k (leaving k o)
+  Fine o = Account (Careful b) k (leaving k o)
 
   selects : Path chose
-  selects = then none (one (index ep)) (i, tt)
+  selects = then none (one (index ep)) ((i, tt), inl tt)
 
   -- the endpoint is selected, also once the packet stands in its area
   chosen-at : file.index (chose .regs) ≡ ep
@@ -90,18 +90,18 @@ module _ (k : Record) (ep n : ℕ) (l : List ℕ) (s : recordSound k ≡ true) (
     other-path =
         rw (modify-txcsrl txcsrl.TxPktRdy (does (packet n) chose))
         (then selects (steps.sent n (txModify txcsrl.TxPktRdy (does (packet n) chose)))
-        (record { fits = room; proper = tt; readies = tx-readies (does (packet n) chose) }, tx-modified txcsrl.TxPktRdy (does (packet n) chose .regs)))
+        ((record { fits = room; proper = tt; readies = tx-readies (does (packet n) chose) }, tx-modified txcsrl.TxPktRdy (does (packet n) chose .regs)), tt))
 
     zero-path : ep ≡ 0 → Path (modifyCsr0l csr0l.TxPktRdy (loaded ep n begun))
     unfolding loaded
     zero-path z =
         rw (modify-csr0l csr0l.TxPktRdy (does (packet n) chose))
         (then selects (steps.sent n (zeroModify csr0l.TxPktRdy (does (packet n) chose)))
-        (record { fits = room; proper = tt; readies = zero-readies (does (packet n) chose) (chosen-is ∙ z) }, tt))
+        ((record { fits = room; proper = tt; readies = zero-readies (does (packet n) chose) (chosen-is ∙ z) }, tt), tt))
 
   empty-path : n ≡ 0 → Path (loaded ep n begun)
   unfolding loaded
-  empty-path z = then selects (one (packet n)) (z, tt)
+  empty-path z = then selects (one (packet n)) ((z, tt), inl tt)
 
   finish : (c : ControlState) (f : Flags) (g : Log) → Path g → (Low b (k .irq) → Low b f) → Fine (after c f g)
   finish c f g r low = record { list = l; last = g; path = r; is = refl; board = refl; served = inr s; flags = low }
@@ -158,7 +158,7 @@ module _ (k : Record) (ep : ℕ) (b f l : List ℕ) (six : Whole (k .regs .words
       testsBy (admissionBy (short k (length f) (length l)) (recordSound k) (leb (endpointsOf k) ep))
       (ownTests (unready k ep) (tooLong k ep (length b)) (notWritable k ep (length b)))
 
-  by-row : {m : ℕ} → Given k ep (length b) (length f) (length l) m → Account (Gentle (k .regs .board)) k (by tested .result .«record»)
+  by-row : {m : ℕ} → Given k ep (length b) (length f) (length l) m → Account (Careful (k .regs .board)) k (by tested .result .«record»)
   unfolding taken blocked
   by-row (granted a s t u) =
       rw (a .lent, a .passes, a .there, s, t, u) (sends k ep (length b) l (a .passes) (there k ep (a .there)) six (txSize k) (not-long t) u)
@@ -170,7 +170,7 @@ module _ (k : Record) (ep : ℕ) (b f l : List ℕ) (six : Whole (k .regs .words
   by-row (little p) = rw p (left refl refl)
   by-row (unsound p q) = rw (p, q) (left refl refl)
 
-  pub write : Account (Gentle (k .regs .board)) k (writeCall k ep b f l .result .«record»)
+  pub write : Account (Careful (k .regs .board)) k (writeCall k ep b f l .result .«record»)
   write =
-      subst (λ (o : WriteOutcome). Account (Gentle (k .regs .board)) k (o .result .«record»))
+      subst (λ (o : WriteOutcome). Account (Careful (k .regs .board)) k (o .result .«record»))
       (sym (call-is k ep b f l ∙ ap by (tests-are k ep (length b) (length f) (length l)))) (by-row (exactly k ep b f l _ .0 refl))

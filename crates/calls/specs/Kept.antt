@@ -1,8 +1,11 @@
 -- What every operation keeps, and which operations a sentence is about.
 -- Assumes nothing.
+use Prim.Native.Nat.{ℕ}
 use mathlib.Core.Path.{_≡_}
+use mathlib.Core.Bool.{Bool, not, _&&_}
 use Rattle.board.specs.declared.Direction.{Direction}
-use Rattle.regs.specs.Registers.{Whole, intrusb, intrOf}
+use Rattle.board.specs.declared.Direction.the-variants.{Out}
+use Rattle.regs.specs.Registers.{Whole, intrusb, intrOf, sideAt}
 use Rattle.stores.specs.Promise.{SameHalts}
 use Rattle.record.specs.declared.Record.{Record}
 use Rattle.record.specs.Record.{SoundRecord}
@@ -18,52 +21,56 @@ pub record Pending (k q : Record) : Type 0 where
   pub usb : intrusb (q .regs .words) ≡ intrusb (k .regs .words)
   pub intr : (d : Direction) → intrOf (q .regs .words) d ≡ intrOf (k .regs .words) d
 
--- the driver's calls that read no interrupt register: all but `on_interrupt` and the host's events
-abbrev pub Stores : Op → Type 0
-Stores (allocEp q w) = Unit
-Stores (busInit l) = Unit
-Stores (enable l) = Unit
-Stores (reset l) = Unit
-Stores (setDeviceAddress a l) = Unit
-Stores (write e b f l) = Unit
-Stores (read e b f l) = Unit
-Stores (setStalled e d s l) = Unit
-Stores (isStalled e d l) = Unit
-Stores (poll l) = Unit
-Stores onInterrupt = ⊥
-Stores forceReset = Unit
-Stores (arrival e b f) = ⊥
-Stores (collection e f) = ⊥
-Stores busReset = ⊥
-Stores suspend = ⊥
-Stores resume = ⊥
-Stores setupEnd = ⊥
-Stores (underrun e) = ⊥
-Stores (overrun e) = ⊥
+-- The kinds of operation: the two calls that write SendStall, stalling and the reset call (because enabling an endpoint writes TXCSRL or
+-- RXCSRL from zeros); every other call of the driver; the one that reads the interrupt registers; and the host's events.
+pub data Kind : Type 0 where
+  stalling plain interrupting hosted : Kind
 
--- the two calls that write SendStall: stalling, and the reset call, because enabling an endpoint writes TXCSRL or RXCSRL from zeros
+abbrev pub kind : Op → Kind
+kind (allocEp q w) = plain
+kind (busInit l) = plain
+kind (enable l) = plain
+kind (reset l) = stalling
+kind (setDeviceAddress a l) = plain
+kind (write e b f l) = plain
+kind (read e b f l) = plain
+kind (setStalled e d s l) = stalling
+kind (isStalled e d l) = plain
+kind (poll l) = plain
+kind onInterrupt = interrupting
+kind forceReset = plain
+kind (arrival e b f) = hosted
+kind (collection e f) = hosted
+kind busReset = hosted
+kind suspend = hosted
+kind resume = hosted
+kind setupEnd = hosted
+kind (underrun e) = hosted
+kind (overrun e) = hosted
+
+-- the driver's calls that read no interrupt register
+abbrev pub storing : Kind → Type 0
+storing stalling = Unit
+storing plain = Unit
+storing interrupting = ⊥
+storing hosted = ⊥
+
+abbrev pub Stores : Op → Type 0
+Stores o = storing (kind o)
+
+abbrev pub writing : Kind → Type 0
+writing stalling = Unit
+writing plain = ⊥
+writing interrupting = ⊥
+writing hosted = ⊥
+
 abbrev pub WritesStall : Op → Type 0
-WritesStall (reset l) = Unit
-WritesStall (setStalled e d s l) = Unit
-WritesStall (allocEp q w) = ⊥
-WritesStall (busInit l) = ⊥
-WritesStall (enable l) = ⊥
-WritesStall (setDeviceAddress a l) = ⊥
-WritesStall (write e b f l) = ⊥
-WritesStall (read e b f l) = ⊥
-WritesStall (isStalled e d l) = ⊥
-WritesStall (poll l) = ⊥
-WritesStall onInterrupt = ⊥
-WritesStall forceReset = ⊥
-WritesStall (arrival e b f) = ⊥
-WritesStall (collection e f) = ⊥
-WritesStall busReset = ⊥
-WritesStall suspend = ⊥
-WritesStall resume = ⊥
-WritesStall setupEnd = ⊥
-WritesStall (underrun e) = ⊥
-WritesStall (overrun e) = ⊥
+WritesStall o = writing (kind o)
 
 -- an operation that writes no SendStall leaves that of endpoints 1 to 5 as it was
 abbrev pub SparesHalts : Record → Op → Type 0
 SparesHalts k o = (WritesStall o → ⊥) → SameHalts (k .regs .words) (step k o .regs .words)
+
+-- of the packets that wait to be read at endpoints 1 to 5 of k, those are gone in q whose endpoint passes a test; no other came or went
+pub record Remain (gone : ℕ → Bool) (k q : Record) : Type 0 where
+  pub ready : (e : ℕ) → (e ≡ 0 → ⊥) → sideAt (q .regs .words) e Out .ready ≡ (sideAt (k .regs .words) e Out .ready && not (gone e))

@@ -21,10 +21,11 @@ use Rattle.record.specs.declared.Record.{Record}
 use Rattle.record.specs.declared.Admission.{Admission}
 use Rattle.record.specs.declared.Admission.the-variants.{Clear, Refused}
 use Rattle.record.specs.Record.{recordSound, admissionBy, endpointsOf, areaOf, needOf}
-use Rattle.host.specs.Host.{Arrival, done, unlessArrived, entryAt, entryIn, arrivalBy, arrivalRefusalIn, arrivalRefusal, arrivalCall}
+use Rattle.host.specs.Host.{Arrival, done, unlessArrived, entryAt, arrivalBy, arrivalRefusalIn, arrivalRefusal, arrivalCall}
 use Rattle.host.proofs.Laws.{never, admitted}
 use Rattle.rounds.specs.Machine.{arrivesAt}
-use Rattle.rounds.proofs.Lawful.{Does, unchanged}
+use Rattle.rounds.specs.Laws.{Does}
+use Rattle.rounds.proofs.Lawful.{unchanged}
 use Rattle.history.specs.Driver.{arrivalEvent, waiting}
 use Rattle.history.proofs.Look.{look, low}
 
@@ -43,7 +44,7 @@ module _ (k : Record) (e n m : ℕ) (clear : arrivalRefusal k e n m ≡ Clear) w
   none-waited : waiting k e ≡ false
   none-waited = tests .1
 
-  there : e < 6
+  pub there : e < 6
   there = admitted k e m (tests .0) .below
 
 -- the receive bits that an arrival leaves; that of endpoint 0 raises none
@@ -55,14 +56,14 @@ raised-bits e n j p he h hj = go (ℕ-discrete e 0)
     go (no z) = rw (ne-eqb e 0 z) (bit-raised p e j he hj)
 
 module _ (k : Record) (e : ℕ) (bytes f : List ℕ) where
-  abbrev refusal : Admission
+  abbrev pub refusal : Admission
   refusal = arrivalRefusal k e (length bytes) (length f)
 
   -- the outcome by its refusal
-  abbrev arrivalOf : Admission → Arrival
+  abbrev pub arrivalOf : Admission → Arrival
   arrivalOf x = unlessArrived x k f (record { event = done k (arrived (k .regs .words) e (length bytes)); fifo = pasted f (areaOf k e Out .start) bytes })
 
-  arrival-is : (x : Admission) → refusal ≡ x → arrivalCall k e bytes f ≡ arrivalOf x
+  pub arrival-is : (x : Admission) → refusal ≡ x → arrivalCall k e bytes f ≡ arrivalOf x
   unfolding arrivalCall
   arrival-is x p = ap arrivalOf p
 
@@ -106,7 +107,7 @@ module _ (k : Record) (e : ℕ) (bytes f : List ℕ) where
               ap (λ (w : ℕ). bit w j) (pending (events.arrival e (length bytes)) (k .regs .words) Out six)
               ∙ raised-bits e (length bytes) j (intrOf (k .regs .words) Out) (there k e (length bytes) (length f) p) (ep .low) (low b j ep);
           sent = λ j ep. refl;
-          bus = record { up = omega arith; asleep = refl };
+          bus = record { up = omega arith; excused = refl };
         }
 
     pub arrival-does : ArrivalDoes (arrivalCall k e bytes f)

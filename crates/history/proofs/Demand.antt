@@ -1,13 +1,17 @@
--- Demand 3 over the driver, for any board: its four sentences, and that they are not empty. Assumes nothing.
+-- Demand 3 over the driver, for any board: its four sentences, that they are not empty, and whose endpoints they are. Assumes nothing.
 use mathlib.Core.Path.{_≡_, refl, sym, ap, subst, _∙_}
 use mathlib.Core.Bool.{true, false}
 use mathlib.Core.List.{List}
-use Prim.Native.Nat.{ℕ}
+use Prim.Native.Nat.{ℕ, _-_}
 use native.Mathlib.Omega.{arith}
 use lib.Dec.{T}
+use lib.ListN.{length}
 use Rattle.laws.specs.Words.{bit}
 use Rattle.laws.proofs.Words.{bit-zero}
 use Rattle.board.specs.declared.Board.{Board}
+use Rattle.board.specs.declared.Board.the-variants.{Display}
+use Rattle.board.specs.declared.Row.{Row}
+use Rattle.board.specs.Boards.{rows-display}
 use Rattle.board.specs.declared.Direction.the-variants.{Out}
 use Rattle.regs.specs.Registers.{File, intrOf}
 use Rattle.regs.proofs.Sides.{fresh-words, fresh-zero}
@@ -16,17 +20,26 @@ use Rattle.record.specs.Record.{freshRecord, recordSound}
 use Rattle.record.proofs.Passing.{sound-record-passes}
 use Rattle.calls.specs.Calls.{Op, step}
 use Rattle.calls.proofs.Kept.{good-fresh, good-step, same-board}
-use Rattle.rounds.specs.Machine.{isAnsweredPoll, isInterrupt, arrivesAt, after}
-use Rattle.rounds.specs.Sentences.{Sentences, NotEmpty}
+use Rattle.rounds.specs.Machine.{isAnsweredPoll, isInterrupt, takesSuspend, arrivesAt, after}
+use Rattle.rounds.specs.Sentences.{RoundAfter, Sentences, UntilTaken, StillThere, NotEmpty}
 use Rattle.rounds.proofs.Counts.{count-at-most}
-use Rattle.rounds.proofs.Lawful.{Lawful, good-after}
+use Rattle.rounds.specs.Laws.{Lawful}
+use Rattle.rounds.proofs.Lawful.{good-after}
+use Rattle.rounds.proofs.Third.{round-after}
+use Rattle.rounds.proofs.Taken.{still-there as unless-taken}
 use Rattle.rounds.proofs.Sentences.{sentences}
-use Rattle.history.specs.Driver.{event, driver, calls}
+use Rattle.history.specs.Driver.{event, takes, driver, calls}
 use Rattle.history.proofs.Look.{look, Kept}
 use Rattle.history.proofs.Polls.{poll-answered}
 use Rattle.history.proofs.Arrivals.{arrival-answered}
 use Rattle.history.proofs.Interrupts.{interrupt-answered}
 use Rattle.history.proofs.Steps.{does, one-place}
+use Rattle.history.proofs.Packets.{high, counted, none-waits, lasts}
+use Rattle.history.proofs.Fetching.{read-answered}
+
+-- the customer's "1 to 5": the display's highest endpoint
+pub one-to-five : driver Display .top ≡ 5
+one-to-five = ap (λ (t : List Row). length t - 1) rows-display
 
 module _ (b : Board) where
   pub kept-fresh : Kept b (freshRecord b)
@@ -48,19 +61,31 @@ module _ (b : Board) where
         good-step = kept-step;
         does = λ k o g. does b k g o;
         one-place = λ k o e g. one-place k o e;
-        two = λ k. omega (arith, count-at-most (k .irq .reset), count-at-most (k .irq .resume));
+        most = λ k. omega (arith, count-at-most (k .irq .reset), count-at-most (k .irq .resume));
         flag-fresh = λ j ep. bit-zero j;
         due-fresh = λ j ep. none-due j;
         sent-fresh = λ j ep. bit-zero j;
-        awake-fresh = refl;
+        excused-fresh = refl;
       }
 
+  -- the last of them with its number and its excuse
+  pub after-two : RoundAfter (driver b) 2 takesSuspend
+  after-two = round-after lawful
+
   pub demand-3 : Sentences (driver b)
-  demand-3 = sentences lawful
+  demand-3 = sentences lawful after-two
+
+  -- what arrived waits until it is taken
+  pub until-taken : UntilTaken (driver b)
+  until-taken = record { first = λ e ep. none-waits b e; each = λ e ep h o. lasts b (after (driver b) h) (good-after lawful h) e ep o }
+
+  pub still-there : StillThere (driver b)
+  still-there = unless-taken until-taken
 
   pub not-empty : NotEmpty (driver b) (calls b)
   not-empty =
       record {
+        untilTaken = until-taken;
         good = λ h. passes h;
         polled = λ h o q.
             let k = after (driver b) h in
@@ -72,6 +97,11 @@ module _ (b : Board) where
             let k = after (driver b) h in
             subst (λ (o : Op). T (arrivesAt e (event k o))) (sym (q .is))
             (arrival-answered k e (q .bytes) (q .fifo) (passes h) (q .there) (q .fits) (q .lent) none);
+        read = λ h e ep o q w.
+            let k = after (driver b) h in
+            let g = good-after lawful h in
+            subst (λ (o : Op). T (takes k o e)) (sym (q .is))
+            (read-answered k e (q .buffer) (q .fifo) (q .list) (high b k g e ep) (passes h) (counted b k g e ep) (q .lent) (q .lent′) w);
       }
     where
       passes : (h : List Op) → recordSound (after (driver b) h) ≡ true

@@ -8,15 +8,20 @@ use Rattle.laws.specs.Words.{bit}
 use Rattle.laws.proofs.Words.{bit-zero}
 use Rattle.board.specs.declared.Board.{Board}
 use Rattle.board.specs.Boards.{rows, at-most-six}
+use Rattle.regs.specs.Registers.{intrusb}
+use Rattle.events.specs.declared.BusEvent.the-variants.{Suspend}
+use Rattle.events.specs.Events.{busBit}
+use Rattle.events.proofs.Others.{usb-clears}
 use Rattle.record.specs.declared.Record.{Record}
 use Rattle.record.specs.Record.{endpointsIn, endpointsOf}
 use Rattle.record.proofs.Passing.{sound-record-passes}
 use Rattle.usb_device_interrupt.specs.declared.OnInterrupt.{OnInterrupt}
-use Rattle.usb_device_interrupt.specs.Interrupt.{interrupted, interruptBy, interruptCall}
-use Rattle.rounds.specs.Machine.{isInterrupt}
+use Rattle.usb_device_interrupt.specs.Interrupt.{snapshotOf, interrupted, interruptBy, interruptCall}
+use Rattle.calls.specs.Calls.{onInterrupt}
+use Rattle.rounds.specs.Machine.{interrupt, isInterrupt}
 use Rattle.rounds.specs.Sentences.{Endpoint}
-use Rattle.rounds.proofs.Lawful.{Does}
-use Rattle.history.specs.Driver.{interruptEvent, driver}
+use Rattle.rounds.specs.Laws.{Does}
+use Rattle.history.specs.Driver.{interruptEvent, event, driver}
 use Rattle.usb_device_interrupt.proofs.Taken.{takes, none-due}
 use Rattle.history.proofs.Look.{look, Kept, below}
 
@@ -36,7 +41,7 @@ module _ (b : Board) (k : Record) (kept : Kept b k) where
         flag = λ j ep. t .rx j (ep .low) (there j ep);
         due = λ j ep. ap (λ (w : ℕ). bit w j) (none-due (k .regs .words) (kept .good .six)) ∙ bit-zero j;
         sent = λ j ep. t .tx j (ep .low) (there j ep);
-        asleep = t .suspend;
+        excused = t .suspend;
       }
     where
       there : (j : ℕ) → Endpoint (driver b) j → j < length (rows (k .regs .board))
@@ -44,6 +49,13 @@ module _ (b : Board) (k : Record) (kept : Kept b k) where
 
   pub interrupt-does : InterruptDoes (interruptCall k)
   interrupt-does = subst InterruptDoes (sym is-answered) taken-in
+
+  -- what the interrupt is said to have read is the snapshot that the call took
+  pub reads-snapshot : event k onInterrupt ≡ interrupt (bit (snapshotOf (k .regs .words) .tx)) (bit (snapshotOf (k .regs .words) .usb) (busBit Suspend))
+  unfolding snapshotOf
+  reads-snapshot =
+      ap (λ (o : OnInterrupt). interruptEvent (o .answer) k) is-answered
+      ∙ ap (λ (n : ℕ). interrupt (bit n) (bit (intrusb (k .regs .words)) (busBit Suspend))) (sym (usb-clears (k .regs .words) (kept .good .six) .1))
 
   pub interrupt-answered : T (isInterrupt (interruptEvent (interruptCall k .answer) k))
   interrupt-answered = subst (λ (o : OnInterrupt). T (isInterrupt (interruptEvent (o .answer) k))) (sym is-answered) tt

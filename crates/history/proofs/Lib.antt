@@ -6,6 +6,8 @@ pub mod Arrivals
 pub mod Interrupts
 pub mod Calm
 pub mod Steps
+pub mod Packets
+pub mod Fetching
 pub mod Demand
 pub mod Sample
 pub mod Histories

@@ -1,29 +1,22 @@
 -- What the step laws look at in the driver's record, and what every record of a history is. Assumes nothing.
 use mathlib.Core.Path.{_≡_, ap}
-use mathlib.Core.List.{List}
-use Prim.Native.Nat.{ℕ, _+_, _-_, _^_, _<_}
+use Prim.Native.Nat.{ℕ, _+_, _^_, _<_}
 use native.Mathlib.Nat.{le-trans}
 use native.Mathlib.Omega.{arith}
 use lib.Pow.{pow-mono}
 use lib.ListN.{length}
 use Rattle.laws.specs.Words.{bit}
 use Rattle.board.specs.declared.Board.{Board}
-use Rattle.board.specs.declared.Board.the-variants.{Display}
-use Rattle.board.specs.declared.Row.{Row}
-use Rattle.board.specs.Boards.{rows, rows-display, at-most-six, at-least-one}
+use Rattle.board.specs.Boards.{rows, at-most-six, at-least-one}
 use Rattle.board.specs.declared.Direction.the-variants.{Out}
 use Rattle.regs.specs.Registers.{intrOf}
 use Rattle.record.specs.declared.Record.{Record}
 use Rattle.calls.specs.Kept.{Good}
-use Rattle.rounds.specs.Machine.{count}
+use Rattle.rounds.specs.Machine.{count, takesSuspend}
 use Rattle.rounds.specs.Sentences.{Endpoint}
-use Rattle.rounds.proofs.Lawful.{Look, Quiet}
+use Rattle.rounds.specs.Laws.{Look, Quiet}
 use Rattle.history.specs.Driver.{driver}
 use Rattle.history.proofs.Flags.{Alike}
-
--- the customer's "1 to 5": the display's highest endpoint
-pub one-to-five : driver Display .top ≡ 5
-one-to-five = ap (λ (t : List Row). length t - 1) rows-display
 
 module _ (b : Board) where
   abbrev pub look : Look (driver b)
@@ -33,7 +26,9 @@ module _ (b : Board) where
         due = λ k. bit (intrOf (k .regs .words) Out);
         sent = λ k. bit (k .irq .«ep_tx»);
         up = λ k. count (k .irq .reset) + count (k .irq .resume);
-        asleep = λ k. k .irq .suspend;
+        excused = λ k. k .irq .suspend;
+        most = 2;
+        excuse = takesSuspend;
       }
 
   -- it passes reply 16's test, has a whole register file, and is of the board that it was made for
@@ -61,5 +56,5 @@ module _ (b : Board) where
       record {
         receive = record { flag = λ j ep. a .rx j (ep .low) (low j ep); due = λ j ep. ap (λ (w : ℕ). bit w j) due };
         sent = λ j ep. a .tx j (ep .low) (low j ep);
-        bus = record { up = omega (arith, ap count (a .reset), ap count (a .resume)); asleep = a .suspend };
+        bus = record { up = omega (arith, ap count (a .reset), ap count (a .resume)); excused = a .suspend };
       }

@@ -31,7 +31,8 @@ use Rattle.usb_device_poll.specs.Poll.{PollOutcome, outcomeOf, ended, walkedOn,
 use Rattle.poll_walk.proofs.Drained.{leftBy, none-new, ready-stays, false-naming}
 use Rattle.rounds.specs.Machine.{Event, count, isAnsweredPoll}
 use Rattle.rounds.specs.Machine as rounds
-use Rattle.rounds.proofs.Lawful.{PutDown, Rounds, Pauses, Does, unchanged}
+use Rattle.rounds.specs.Laws.{PutDown, Rounds, Pauses, Does}
+use Rattle.rounds.proofs.Lawful.{unchanged}
 use Rattle.history.specs.Driver.{resultEvent, pollEvent, driver}
 use Rattle.history.proofs.Flags.{Alike, then, zero-step, accept-step}
 use Rattle.history.proofs.Ready.{Waits, overrun-checked, zero-served, walk-leaves}
@@ -98,7 +99,7 @@ module _ (b : Board) (k : Record) (kept : Kept b k) where
           bus =
               record {
                 up = omega (arith, ap (λ (x : Flags). count (x .reset)) is, ap (λ (x : Flags). count (x .resume)) is, ap count (a .reset), ap count (a .resume));
-                asleep = ap (λ (x : Flags). x .suspend) is ∙ a .suspend;
+                excused = ap (λ (x : Flags). x .suspend) is ∙ a .suspend;
               };
         }
       where
@@ -159,7 +160,7 @@ module _ (b : Board) (k : Record) (kept : Kept b k) where
               record {
                 receive = record { flag = λ j ep. ap (λ (w : ℕ). bit w j) rx; due = λ j ep. ap (λ (w : ℕ). bit w j) due };
                 sent = λ j ep. ap (λ (w : ℕ). bit w j) tx;
-                bus = record { up = up; asleep = asleep };
+                bus = record { up = up; excused = asleep };
               };
           less = less;
         }

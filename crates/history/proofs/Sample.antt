@@ -35,7 +35,7 @@ use Rattle.calls.specs.Calls.{Op, step}
 use Rattle.calls.specs.Calls as calls
 use Rattle.rounds.specs.Machine.{Event, quiet, Machine, isRound, isInterrupt, isAnsweredPoll, takesSuspend, arrivesAt, names, arrivesAbove, count, run, some, Stays, falseNamings, arrivalsAbove, endsInRound}
 use Rattle.rounds.specs.Sentences.{StillWaits, NextRound, ThreePolls}
-use Rattle.history.specs.Driver.{event, pollEvent, interruptEvent, arrivalEvent, waiting, driver}
+use Rattle.history.specs.Driver.{event, pollEvent, interruptEvent, arrivalEvent, waiting, takes, driver}
 use Rattle.history.proofs.Look.{Kept}
 use Rattle.history.proofs.Demand.{kept-fresh, kept-step}
 
@@ -177,6 +177,7 @@ sample = record {
   step = stepIn display true;
   event = eventIn display true;
   waiting = waiting;
+  takes = λ k o. takes k (op o);
 }
 
 abbrev pub M : Machine

@@ -1,5 +1,5 @@
 -- Every operation keeps the step laws: the driver is lawful. Assumes nothing.
-use mathlib.Core.Path.{_≡_, refl, sym, ap, subst, _∙_}
+use mathlib.Core.Path.{_≡_, refl, sym, subst, _∙_}
 use mathlib.Core.Bool.{false, not}
 use Prim.Native.Nat.{ℕ}
 use lib.Dec.{T}
@@ -27,7 +27,8 @@ use Rattle.calls.specs.Calls.{Op, allocEp, busInit, enable, reset, setDeviceAdd
 use Rattle.calls.specs.Kept.{Stores}
 use Rattle.calls.proofs.Kept.{same-pending}
 use Rattle.rounds.specs.Machine.{arrivesAt}
-use Rattle.rounds.proofs.Lawful.{Quiet, Does, unchanged}
+use Rattle.rounds.specs.Laws.{Quiet, Does}
+use Rattle.rounds.proofs.Lawful.{unchanged}
 use Rattle.history.specs.Driver.{pollEvent, interruptEvent, event, waiting}
 use Rattle.history.proofs.Flags.{Alike, same}
 use Rattle.history.proofs.Look.{look, Kept, small, calm}
@@ -37,7 +38,7 @@ use Rattle.history.proofs.Interrupts.{interrupt-does}
 use Rattle.history.proofs.Calm.{alloc-ep-call, bus-init-call, enable-call, reset-call, address-call, set-stalled-call, is-stalled-call, read-call, write-call}
 
 -- no poll and no interrupt is an arrival
-poll-brings-none : (i : ℕ) (a : PollAnswer) → T (not (arrivesAt i (pollEvent a)))
+pub poll-brings-none : (i : ℕ) (a : PollAnswer) → T (not (arrivesAt i (pollEvent a)))
 poll-brings-none i (polled.Done None) = tt
 poll-brings-none i (polled.Done (Data m)) = tt
 poll-brings-none i (polled.Done Reset) = tt
@@ -45,7 +46,7 @@ poll-brings-none i (polled.Done Resume) = tt
 poll-brings-none i (polled.Done Suspend) = tt
 poll-brings-none i (polled.Refused x) = tt
 
-interrupt-brings-none : (i : ℕ) (a : Interrupted) (k : Record) → T (not (arrivesAt i (interruptEvent a k)))
+pub interrupt-brings-none : (i : ℕ) (a : Interrupted) (k : Record) → T (not (arrivesAt i (interruptEvent a k)))
 interrupt-brings-none i interrupted.Done k = tt
 interrupt-brings-none i (interrupted.Refused x) k = tt
 

@@ -1,10 +1,11 @@
 -- The driver itself as a machine that is polled: demand 3's words, over demand 2's definitions of the calls.
 -- Assumes nothing.
 use mathlib.Core.Path.{_≡_}
-use mathlib.Core.Bool.{Bool, true, false}
+use mathlib.Core.Bool.{Bool, true, false, _&&_}
 use mathlib.Core.List.{List}
 use Prim.Native.Nat.{ℕ, _-_, _≤_, _<_}
-use lib.ListN.{length}
+use lib.Dec.{eqb}
+use lib.ListN.{length, getD}
 use Rattle.laws.specs.Words.{bit}
 use Rattle.board.specs.declared.Board.{Board}
 use Rattle.board.specs.declared.Direction.the-variants.{Out, In}
@@ -12,6 +13,7 @@ use Rattle.board.specs.Boards.{rows}
 use Rattle.regs.specs.Registers.{sideAt, intrusb, intrOf}
 use Rattle.events.specs.declared.BusEvent.the-variants.{Suspend as SuspendBit}
 use Rattle.events.specs.Events.{busBit}
+use Rattle.endpoints.specs.Endpoints.{blank}
 use Rattle.record.specs.declared.Record.{Record}
 use Rattle.record.specs.Record.{freshRecord, recordSound, endpointsOf, areaOf, needOf}
 use Rattle.usb_device_interrupt.specs.declared.Interrupted.{Interrupted}
@@ -25,7 +27,7 @@ use Rattle.usb_device_poll.specs.Poll.{pollCall}
 use Rattle.host.specs.declared.Happened.{Happened}
 use Rattle.host.specs.declared.Happened.the-variants as happened
 use Rattle.host.specs.Host.{arrivalCall}
-use Rattle.calls.specs.Calls.{Op, allocEp, busInit, enable, reset, setDeviceAddress, write, read, setStalled, isStalled, poll, onInterrupt, forceReset, arrival, collection, busReset, suspend, resume, setupEnd, underrun, overrun, step}
+use Rattle.calls.specs.Calls.{Op, allocEp, busInit, enable, reset, setDeviceAddress, write, read, setStalled, isStalled, poll, onInterrupt, forceReset, arrival, collection, busReset, suspend, resume, setupEnd, underrun, overrun, outcome, step}
 use Rattle.rounds.specs.Machine as rounds
 use Rattle.rounds.specs.Machine.{Event, Machine, round, interrupt, pause, quiet}
 use Rattle.rounds.specs.Sentences.{Calls}
@@ -83,6 +85,35 @@ event k (overrun e) = quiet
 abbrev pub waiting : Record → ℕ → Bool
 waiting k e = sideAt (k .regs .words) e Out .ready
 
+-- The operations that take what waits at e, when they are answered: a read at e; stalling or unstalling e out, for "the source's `write`
+-- also drops a waiting packet at 1 to 5"; and the reset call where e is used to receive, for it enables e anew, and so writes RXCSRL from
+-- zeros too. Nothing else does: no poll, no interrupt, no write, no event of the host.
+abbrev pub answered : Record → Op → Bool
+answered k o = eqb (outcome k o .reply) 0
+
+abbrev pub takes : Record → Op → ℕ → Bool
+takes k (read i b f l) e = answered k (read i b f l) && eqb e i
+takes k (setStalled i Out s l) e = answered k (setStalled i Out s l) && eqb e i
+takes k (setStalled i In s l) e = false
+takes k (reset l) e = answered k (reset l) && getD (k .endpoints) e blank .«used_rx»
+takes k (allocEp q w) e = false
+takes k (busInit l) e = false
+takes k (enable l) e = false
+takes k (setDeviceAddress a l) e = false
+takes k (write i b f l) e = false
+takes k (isStalled i d l) e = false
+takes k (poll l) e = false
+takes k onInterrupt e = false
+takes k forceReset e = false
+takes k (arrival i b f) e = false
+takes k (collection i f) e = false
+takes k busReset e = false
+takes k suspend e = false
+takes k resume e = false
+takes k setupEnd e = false
+takes k (underrun i) e = false
+takes k (overrun i) e = false
+
 -- "For endpoints 1 to 5, over any history from a fresh record": 5 is the board's own highest endpoint. A history is any list of public
 -- calls and host events, each lent whatever it is lent.
 abbrev pub driver : Board → Machine
@@ -94,6 +125,7 @@ driver b = record {
   step = step;
   event = event;
   waiting = waiting;
+  takes = takes;
 }
 
 -- That the sentences are not empty: which calls must be answered.
@@ -113,10 +145,20 @@ pub record LentArrival (k : Record) (e : ℕ) (o : Op) : Type 0 where
   pub fits : length bytes ≤ areaOf k e Out .size
   pub lent : needOf k ≤ length fifo
 
+-- a read at an endpoint, into a buffer of any length, lent 128 stores and the FIFO buffer that the board needs
+pub record LentRead (k : Record) (e : ℕ) (o : Op) : Type 0 where
+  pub buffer : List ℕ
+  pub fifo : List ℕ
+  pub list : List ℕ
+  pub is : o ≡ read e buffer fifo list
+  pub lent : needOf k ≤ length fifo
+  pub lent′ : 384 ≤ length list
+
 abbrev pub calls : (b : Board) → Calls (driver b)
 calls b = record {
   Good = λ k. recordSound k ≡ true;
   Poll = LentPoll;
   Interrupt = λ o. o ≡ onInterrupt;
   Arrival = LentArrival;
+  Read = LentRead;
 }

@@ -1,11 +1,11 @@
 -- A history for each sentence in which its premises hold, computed on the honest machine with the display's endpoints.
 -- Assumes nothing.
 use mathlib.Core.Path.{_≡_, refl}
-use mathlib.Core.Bool.{true, false, not}
+use mathlib.Core.Bool.{true, false}
 use mathlib.Core.List.{List, [], _∷_}
 use Rattle.rounds.specs.Machine.{Machine, names, namesSent, isRound, run, after, falseNamings, arrivalsAbove}
 use Rattle.rounds.specs.Sentences.{StillWaits, NextRound, ThreePolls}
-use Rattle.rounds.specs.Shams.{Op, arrive, collect, take, raise, irq, poll, display, honest}
+use Rattle.rounds.specs.Shams.{Op, arrive, collect, take, raise, irq, poll, display, honest, mended}
 
 abbrev M : Machine
 M = display honest
@@ -67,3 +67,13 @@ asleep = refl
 
 interrupted : isRound (M .event (run M (run M (after M woken) (poll ∷ woken)) (poll ∷ woken)) poll) ≡ false
 interrupted = refl
+
+-- With the Suspend step mended and all three taken, of four polls the third is no round yet, and the fourth is.
+abbrev all-three : List Op
+all-three = raise (record { reset = true; resume = true; suspend = true }) ∷ irq ∷ poll ∷ poll ∷ []
+
+third-is-none : isRound (display mended .event (after (display mended) all-three) poll) ≡ false
+third-is-none = refl
+
+fourth-is-round : isRound (display mended .event (run (display mended) (after (display mended) all-three) (poll ∷ [])) poll) ≡ true
+fourth-is-round = refl

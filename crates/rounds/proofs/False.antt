@@ -8,8 +8,8 @@ use native.Mathlib.Omega.{arith}
 use lib.Dec.{T, eqb}
 use Rattle.rounds.specs.Machine.{Event, arrival, interrupt, round, pause, quiet, Machine, names, arrivesAbove, count, run, falseNamings, arrivalsAbove}
 use Rattle.rounds.specs.Sentences.{Endpoint, FewFalse}
+use Rattle.rounds.specs.Laws.{Look, SameReceive, PutDown, Does, Lawful}
 use Rattle.rounds.proofs.Counts.{count-le, count-less, count-or, sum, sum-zero, sum-le, sum-less, sum-more}
-use Rattle.rounds.proofs.Lawful.{Look, SameReceive, PutDown, Does, Lawful}
 
 module _ {M : Machine} {Good : M .State → Type 0} {L : Look M} (W : Lawful M Good L) where
   -- what endpoint j's flag and due interrupt can still pay for

@@ -1,29 +1,91 @@
--- The small machine is lawful with the honest poll, so all four sentences can be kept; and with one that refuses every poll, so
--- they say little without `NotEmpty`.
+-- The small machine is lawful with the honest poll, so all four sentences can be kept, and what arrives waits until it is taken. It is
+-- lawful too where its poll or its interrupt throws every packet away, and with a poll that refuses always, so the four say little without
+-- `NotEmpty`. With the Suspend step mended the last sentence needs no excuse, and one poll more.
 -- Assumes nothing.
 use mathlib.Core.Path.{_≡_, refl, sym, ap, subst, _∙_}
-use mathlib.Core.Bool.{Bool, true, false, not, cond, true≢false}
+use mathlib.Core.Bool.{Bool, true, false, not, cond, true≢false, _&&_, _||_}
 use Prim.Native.Nat.{ℕ, suc, _+_, _≤_, _<_}
 use native.Mathlib.Omega.{arith}
+use native.Mathlib.Decide.{ℕ-discrete}
 use lib.Dec.{T, T-not, not-T, leb, le→leb, eqb, eqb→eq, eqb-refl}
-use Rattle.rounds.specs.Machine.{arrival, round, quiet, count, arrivesAt, isAnsweredPoll, isInterrupt, after}
-use Rattle.rounds.specs.Sentences.{Sentences, NotEmpty}
-use Rattle.rounds.specs.Shams.{Bus, State, Op, arrive, collect, take, raise, irq, poll, Polled, none, arrived, withFlags, withBus, accepts, step, event, small, calls, inOrder, walked, honest, refuses}
+use borrow.Author.Tests.{eq-eqb, ne-eqb}
+use Rattle.rounds.specs.Machine.{Event, arrival, interrupt, round, quiet, count, arrivesAt, isAnsweredPoll, isInterrupt, takesSuspend, after}
+use Rattle.rounds.specs.Sentences.{Sentences, RoundAfter, UntilTaken, NotEmpty}
+use Rattle.rounds.specs.Laws.{Look, Quiet, PutDown, Rounds, Pauses, Does, Lawful}
+use Rattle.rounds.specs.Shams.{Bus, State, Op, arrive, collect, take, raise, irq, poll, Polled, none, calm, bothBus, arrived, taken, thrown, withFlags, withBus, accepts, step, event, takes, machine, small, calls, inOrder, inMendedOrder, walked, honest, mended, throwsAway, throwsTaken, refuses}
 use Rattle.rounds.proofs.Counts.{count-at-most}
-use Rattle.rounds.proofs.Tests.{and-right, and-both}
-use Rattle.rounds.proofs.Lawful.{Look, Quiet, PutDown, Rounds, Pauses, Does, unchanged, Lawful}
+use Rattle.rounds.proofs.Tests.{and-right, and-both, and-true, is-down}
+use Rattle.rounds.proofs.Lawful.{unchanged}
+use Rattle.rounds.proofs.Third.{round-after}
 use Rattle.rounds.proofs.Sentences.{sentences}
 use Rattle.rounds.proofs.Walk.{Down, none-new, kept, mistaken}
 
-module _ (top : ℕ) (ask : State → Polled) where
-  abbrev look : Look (small top ask)
+-- which of the bus flags are reported and put down before a round, and what excuses
+record Reports : Type 0 where
+  up : Bus → ℕ
+  excused : Bus → Bool
+  most : ℕ
+  excuse : Event → Bool
+  few : (b : Bus) → up b ≤ most
+  at-first : excused calm ≡ false
+  takes : (a b : Bus) (gone : ℕ → Bool) → excused (bothBus a b) ≡ (excused a || excuse (interrupt gone (b .suspend)))
+
+-- reset and resume; a suspend excuses
+abbrev asIs : Reports
+asIs =
+    record {
+      up = λ b. count (b .reset) + count (b .resume);
+      excused = λ b. b .suspend;
+      most = 2;
+      excuse = takesSuspend;
+      few = λ b. omega (arith, count-at-most (b .reset), count-at-most (b .resume));
+      at-first = refl;
+      takes = λ a b gone. refl;
+    }
+
+-- all three; nothing excuses
+abbrev pub never : Event → Bool
+never v = false
+
+abbrev allThree : Reports
+allThree =
+    record {
+      up = λ b. count (b .reset) + count (b .resume) + count (b .suspend);
+      excused = λ b. false;
+      most = 3;
+      excuse = never;
+      few = λ b. omega (arith, count-at-most (b .reset), count-at-most (b .resume), count-at-most (b .suspend));
+      at-first = refl;
+      takes = λ a b gone. refl;
+    }
+
+-- two states that differ at most in what waits
+record Alike (s t : State) : Type 0 where
+  flag : t .flag ≡ s .flag
+  due : t .due ≡ s .due
+  sent : t .sent ≡ s .sent
+  bus : t .bus ≡ s .bus
+
+same : (s : State) → Alike s s
+same s = record { flag = refl; due = refl; sent = refl; bus = refl }
+
+throws : (s : State) → Alike s (thrown s)
+throws s = record { flag = refl; due = refl; sent = refl; bus = refl }
+
+at : {a b : ℕ → Bool} → a ≡ b → (j : ℕ) → a j ≡ b j
+at p j = ap (λ (w : ℕ → Bool). w j) p
+
+module _ (B : Reports) (top : ℕ) (on : State → State) (ask : State → Polled) where
+  abbrev look : Look (machine top on ask)
   look =
       record {
         flag = λ s. s .flag;
         due = λ s. s .due;
         sent = λ s. s .sent;
-        up = λ s. count (s .bus .reset) + count (s .bus .resume);
-        asleep = λ s. s .bus .suspend;
+        up = λ s. B .up (s .bus);
+        excused = λ s. B .excused (s .bus);
+        most = B .most;
+        excuse = B .excuse;
       }
 
   idle : (s : State) → Quiet look s s
@@ -31,7 +93,7 @@ module _ (top : ℕ) (ask : State → Polled) where
 
   arrive-does : (s : State) (e : ℕ) (b : Bool) → Does look s (cond b (arrival e) quiet) (cond b (arrived s e) s)
   arrive-does s e true =
-      record { flag = λ j ep. refl; due = λ j ep. refl; sent = λ j ep. refl; bus = record { up = omega arith; asleep = refl } }
+      record { flag = λ j ep. refl; due = λ j ep. refl; sent = λ j ep. refl; bus = record { up = omega arith; excused = refl } }
   arrive-does s e false = idle s
 
   one-arrival : (s : State) (e i : ℕ) (b : Bool) → accepts top s i ≡ b → T (s .ready e) → T (not (arrivesAt e (cond b (arrival i) quiet)))
@@ -40,76 +102,125 @@ module _ (top : ℕ) (ask : State → Polled) where
       (λ here. T-not (s .ready i) (and-right (leb i top) (not (s .ready i)) (subst T (sym p) tt)) (subst (λ (m : ℕ). T (s .ready m)) (sym (eqb→eq i e here)) w))
   one-arrival s e i false p w = tt
 
-  module _ (asked : (s : State) → Does look s (ask s .event) (ask s .state)) (no-arrival : (s : State) (e : ℕ) → T (not (arrivesAt e (ask s .event)))) where
-    does : (s : State) (o : Op) → Does look s (event top ask s o) (step top ask s o)
-    does s (arrive e) = arrive-does s e (accepts top s e)
-    does s (collect e) = unchanged look s (step top ask s (collect e)) refl refl refl refl refl
-    does s (take e) = unchanged look s (step top ask s (take e)) refl refl refl refl refl
-    does s (raise b) = unchanged look s (step top ask s (raise b)) refl refl refl refl refl
-    does s irq = record { flag = λ j ep. refl; due = λ j ep. refl; sent = λ j ep. refl; asleep = refl }
-    does s poll = asked s
-
-    one-place : (s : State) (o : Op) (e : ℕ) → T (s .ready e) → T (not (arrivesAt e (event top ask s o)))
-    one-place s (arrive i) e w = one-arrival s e i (accepts top s i) refl w
-    one-place s (collect i) e w = tt
-    one-place s (take i) e w = tt
-    one-place s (raise b) e w = tt
-    one-place s irq e w = tt
-    one-place s poll e w = no-arrival s e
-
-    pub lawful : Lawful (small top ask) (λ s. T true) look
-    lawful =
-        record {
-          good-fresh = tt;
-          good-step = λ s o g. tt;
-          does = λ s o g. does s o;
-          one-place = λ s o e g. one-place s o e;
-          two = λ s. omega (arith, count-at-most (s .bus .reset), count-at-most (s .bus .resume));
-          flag-fresh = λ j ep. refl;
-          due-fresh = λ j ep. refl;
-          sent-fresh = λ j ep. refl;
-          awake-fresh = refl;
-        }
-
-module _ (top : ℕ) where
-  -- one of reset and resume put down, or the suspend flag up
-  paused : (s : State) (b : Bus) → b .suspend ≡ s .bus .suspend → count (b .reset) + count (b .resume) ≤ count (s .bus .reset) + count (s .bus .resume)
-      → (s .bus .suspend ≡ false → count (b .reset) + count (b .resume) < count (s .bus .reset) + count (s .bus .resume))
-      → Pauses (look top (honest top)) s (withBus s b)
-  paused s b asleep le less =
+  -- the interrupt takes what is due, whatever it does to what waits
+  takes-all : (s : State) → Alike (taken s) (on s) → Does look s (interrupt (s .gone) (s .raised .suspend)) (on s)
+  takes-all s a =
       record {
-        same = record { receive = record { flag = λ j ep. refl; due = λ j ep. refl }; sent = λ j ep. refl; bus = record { up = le; asleep = asleep } };
-        less = less;
+        flag = λ j ep. at (a .flag) j;
+        due = λ j ep. at (a .due) j;
+        sent = λ j ep. at (a .sent) j;
+        excused = ap (B .excused) (a .bus) ∙ B .takes (s .bus) (s .raised) (s .gone);
       }
 
-  rounded : (s : State) → s .bus .reset ≡ false → s .bus .resume ≡ false
-      → Rounds (look top (honest top)) (walked top s) (s .sent) s (withFlags s (walked top s) none)
-  rounded s r m =
+  module _
+      (taking : (s : State) → Alike (taken s) (on s))
+      (asked : (s : State) → Does look s (ask s .event) (ask s .state))
+      (no-arrival : (s : State) (e : ℕ) → T (not (arrivesAt e (ask s .event))))
+    where
+      does : (s : State) (o : Op) → Does look s (event top on ask s o) (step top on ask s o)
+      does s (arrive e) = arrive-does s e (accepts top s e)
+      does s (collect e) = unchanged look s (step top on ask s (collect e)) refl refl refl refl refl
+      does s (take e) = unchanged look s (step top on ask s (take e)) refl refl refl refl refl
+      does s (raise b) = unchanged look s (step top on ask s (raise b)) refl refl refl refl refl
+      does s irq = takes-all s (taking s)
+      does s poll = asked s
+
+      one-place : (s : State) (o : Op) (e : ℕ) → T (s .ready e) → T (not (arrivesAt e (event top on ask s o)))
+      one-place s (arrive i) e w = one-arrival s e i (accepts top s i) refl w
+      one-place s (collect i) e w = tt
+      one-place s (take i) e w = tt
+      one-place s (raise b) e w = tt
+      one-place s irq e w = tt
+      one-place s poll e w = no-arrival s e
+
+      lawful : Lawful (machine top on ask) (λ s. T true) look
+      lawful =
+          record {
+            good-fresh = tt;
+            good-step = λ s o g. tt;
+            does = λ s o g. does s o;
+            one-place = λ s o e g. one-place s o e;
+            most = λ s. B .few (s .bus);
+            flag-fresh = λ j ep. refl;
+            due-fresh = λ j ep. refl;
+            sent-fresh = λ j ep. refl;
+            excused-fresh = B .at-first;
+          }
+
+-- a poll that is honest but for what it leaves waiting
+module _ (B : Reports) (top : ℕ) (on : State → State) (ask : State → Polled) where
+  abbrev L : Look (machine top on ask)
+  L = look B top on ask
+
+  -- one of the flags put down, or what excuses up
+  paused : (s : State) (b : Bus) (t : State) → Alike (withBus s b) t → B .excused b ≡ B .excused (s .bus) → B .up b ≤ B .up (s .bus)
+      → (B .excused (s .bus) ≡ false → B .up b < B .up (s .bus)) → Pauses L s t
+  paused s b t a excused le less =
       record {
-        named = λ i high. refl;
-        none-new = λ j ep. none-new (s .flag) (s .ready) (suc top) j;
-        kept = λ j ep. kept (s .flag) (s .ready) (suc top) j;
-        mistaken = λ i high t w. higher i (mistaken (s .flag) (s .ready) (suc top) i (omega arith) t w);
-        due = λ j ep. refl;
+        same =
+            record {
+              receive = record { flag = λ j ep. at (a .flag) j; due = λ j ep. at (a .due) j };
+              sent = λ j ep. at (a .sent) j;
+              bus = record { up = subst (λ (x : Bus). B .up x ≤ B .up (s .bus)) (sym (a .bus)) le; excused = ap (B .excused) (a .bus) ∙ excused };
+            };
+        less = λ free. subst (λ (x : Bus). B .up x < B .up (s .bus)) (sym (a .bus)) (less free);
+      }
+
+  rounded : (s t : State) → Alike (withFlags s (walked top s) none) t → B .up (s .bus) ≡ 0 → Rounds L (walked top s) (s .sent) s t
+  rounded s t a none-up =
+      record {
+        named = λ i high. sym (at (a .flag) i);
+        none-new = λ j ep x. none-new (s .flag) (s .ready) (suc top) j (subst T (at (a .flag) j) x);
+        kept = λ j ep w x. subst T (sym (at (a .flag) j)) (kept (s .flag) (s .ready) (suc top) j w x);
+        mistaken = λ i high x w. higher i (mistaken (s .flag) (s .ready) (suc top) i (omega arith) (subst T (at (a .flag) i) x) w);
+        due = λ j ep. at (a .due) j;
         sent = λ j ep. refl;
-        wiped = λ j ep. refl;
-        none-up = omega (arith, ap count r, ap count m);
-        bus = record { up = omega arith; asleep = refl };
+        wiped = λ j ep. at (a .sent) j;
+        none-up = none-up;
+        bus = record { up = subst (λ (x : Bus). B .up x ≤ B .up (s .bus)) (sym (a .bus)) (omega arith); excused = ap (B .excused) (a .bus) };
       }
     where
-      higher : (i : ℕ) → Down (s .flag) (walked top s) i (suc top) → PutDown (look top (honest top)) i s (withFlags s (walked top s) none)
-      higher i x = record { at = x .at; above = x .above; high = omega (arith, x .below); was = x .was; down = x .down }
+      higher : (i : ℕ) → Down (s .flag) (walked top s) i (suc top) → PutDown L i s t
+      higher i x =
+          record {
+            at = x .at;
+            above = x .above;
+            high = omega (arith, x .below);
+            was = x .was;
+            down = subst (λ (b : Bool). T (not b)) (sym (at (a .flag) (x .at))) (x .down);
+          }
 
-  -- the answer of the honest poll, with its three tests taken apart
+-- the answer of the honest poll and of the mended one, with their three tests taken apart
+module _ (top : ℕ) where
+  abbrev inRound : State → Polled
+  inRound s = record { event = round (walked top s) (s .sent); state = withFlags s (walked top s) none }
+
   abbrev asked : State → Bool → Bool → Bool → Polled
-  asked s r m u = inOrder r m u s (record { event = round (walked top s) (s .sent); state = withFlags s (walked top s) none })
+  asked s r m u = inOrder r m u s (inRound s)
 
-  polled : (s : State) (r m u : Bool) → s .bus .reset ≡ r → s .bus .resume ≡ m → s .bus .suspend ≡ u
-      → Does (look top (honest top)) s (asked s r m u .event) (asked s r m u .state)
-  polled s true m u er em eu = let c = ap count er in paused s _ refl (omega (arith, c)) (λ a. omega (arith, c))
-  polled s false true u er em eu = let c = ap count em in paused s _ refl (omega (arith, c)) (λ a. omega (arith, c))
-  polled s false false true er em eu = paused s _ refl (omega arith) (λ a. absurd (true≢false (sym eu ∙ a)))
-  polled s false false false er em eu = rounded s er em
+  abbrev askedMended : State → Bool → Bool → Bool → Polled
+  askedMended s r m u = inMendedOrder r m u s (inRound s)
+
+  module _ (on : State → State) (ask : State → Polled) (leave : State → State) (alike : (t : State) → Alike t (leave t)) where
+    polled : (s : State) (r m u : Bool) → s .bus .reset ≡ r → s .bus .resume ≡ m → s .bus .suspend ≡ u
+        → Does (look asIs top on ask) s (asked s r m u .event) (leave (asked s r m u .state))
+    polled s true m u er em eu = let c = ap count er in paused asIs top on ask s _ _ (alike _) refl (omega (arith, c)) (λ a. omega (arith, c))
+    polled s false true u er em eu = let c = ap count em in paused asIs top on ask s _ _ (alike _) refl (omega (arith, c)) (λ a. omega (arith, c))
+    polled s false false true er em eu = paused asIs top on ask s _ _ (alike _) refl (omega arith) (λ a. absurd (true≢false (sym eu ∙ a)))
+    polled s false false false er em eu = rounded asIs top on ask s _ (alike _) (omega (arith, ap count er, ap count em))
+
+    polls-honestly : (s : State) → Does (look asIs top on ask) s (honest top s .event) (leave (honest top s .state))
+    polls-honestly s = polled s (s .bus .reset) (s .bus .resume) (s .bus .suspend) refl refl refl
+
+  polled-mended : (s : State) (r m u : Bool) → s .bus .reset ≡ r → s .bus .resume ≡ m → s .bus .suspend ≡ u
+      → Does (look allThree top taken (mended top)) s (askedMended s r m u .event) (askedMended s r m u .state)
+  polled-mended s true m u er em eu =
+      let c = ap count er in paused allThree top taken (mended top) s _ _ (same _) refl (omega (arith, c)) (λ a. omega (arith, c))
+  polled-mended s false true u er em eu =
+      let c = ap count em in paused allThree top taken (mended top) s _ _ (same _) refl (omega (arith, c)) (λ a. omega (arith, c))
+  polled-mended s false false true er em eu =
+      let c = ap count eu in paused allThree top taken (mended top) s _ _ (same _) refl (omega (arith, c)) (λ a. omega (arith, c))
+  polled-mended s false false false er em eu = rounded allThree top taken (mended top) s _ (same _) (omega (arith, ap count er, ap count em, ap count eu))
 
   no-arrival : (s : State) (r m u : Bool) (e : ℕ) → T (not (arrivesAt e (asked s r m u .event)))
   no-arrival s true m u e = tt
@@ -117,31 +228,103 @@ module _ (top : ℕ) where
   no-arrival s false false true e = tt
   no-arrival s false false false e = tt
 
+  none-comes : (s : State) (e : ℕ) → T (not (arrivesAt e (honest top s .event)))
+  none-comes s e = no-arrival s (s .bus .reset) (s .bus .resume) (s .bus .suspend) e
+
+  none-comes-mended : (s : State) (r m u : Bool) (e : ℕ) → T (not (arrivesAt e (askedMended s r m u .event)))
+  none-comes-mended s true m u e = tt
+  none-comes-mended s false true u e = tt
+  none-comes-mended s false false true e = tt
+  none-comes-mended s false false false e = tt
+
   answered : (s : State) (r m u : Bool) → T (isAnsweredPoll (asked s r m u .event))
   answered s true m u = tt
   answered s false true u = tt
   answered s false false true = tt
   answered s false false false = tt
 
+  all-wait : (s : State) (r m u : Bool) → asked s r m u .state .ready ≡ s .ready
+  all-wait s true m u = refl
+  all-wait s false true u = refl
+  all-wait s false false true = refl
+  all-wait s false false false = refl
+
+  honest-lawful : Lawful (small top (honest top)) (λ s. T true) (look asIs top taken (honest top))
+  honest-lawful = lawful asIs top taken (honest top) (λ s. same (taken s)) (polls-honestly taken (honest top) (λ s. s) same) none-comes
+
   pub honest-sentences : Sentences (small top (honest top))
-  honest-sentences =
-      sentences (lawful top (honest top) (λ s. polled s (s .bus .reset) (s .bus .resume) (s .bus .suspend) refl refl refl)
-      (λ s. no-arrival s (s .bus .reset) (s .bus .resume) (s .bus .suspend)))
+  honest-sentences = sentences honest-lawful (round-after honest-lawful)
+
+  -- the two machines that throw packets away keep the four sentences as well
+  thrower-lawful : Lawful (small top (throwsAway top)) (λ s. T true) (look asIs top taken (throwsAway top))
+  thrower-lawful = lawful asIs top taken (throwsAway top) (λ s. same (taken s)) (polls-honestly taken (throwsAway top) thrown throws) none-comes
+
+  pub throwsAway-sentences : Sentences (small top (throwsAway top))
+  throwsAway-sentences = sentences thrower-lawful (round-after thrower-lawful)
+
+  taker-lawful : Lawful (throwsTaken top) (λ s. T true) (look asIs top (λ s. thrown (taken s)) (honest top))
+  taker-lawful =
+      lawful asIs top (λ s. thrown (taken s)) (honest top) (λ s. throws (taken s))
+      (polls-honestly (λ s. thrown (taken s)) (honest top) (λ s. s) same) none-comes
+
+  pub throwsTaken-sentences : Sentences (throwsTaken top)
+  throwsTaken-sentences = sentences taker-lawful (round-after taker-lawful)
+
+  -- the Suspend step mended: after three answered polls the next is a round, whatever was taken
+  mended-lawful : Lawful (small top (mended top)) (λ s. T true) (look allThree top taken (mended top))
+  mended-lawful =
+      lawful allThree top taken (mended top) (λ s. same (taken s)) (λ s. polled-mended s (s .bus .reset) (s .bus .resume) (s .bus .suspend) refl refl refl)
+      (λ s. none-comes-mended s (s .bus .reset) (s .bus .resume) (s .bus .suspend))
+
+  pub mended-round : RoundAfter (small top (mended top)) 3 never
+  mended-round = round-after mended-lawful
+
+  -- what arrives waits until it is taken
+  swapped : (e i : ℕ) → eqb e i ≡ eqb i e
+  swapped e i = go (ℕ-discrete e i)
+    where
+      go : Dec (e ≡ i) → eqb e i ≡ eqb i e
+      go (yes p) = eq-eqb e i p ∙ sym (eq-eqb i e (sym p))
+      go (no n) = ne-eqb e i n ∙ sym (ne-eqb i e (λ p. n (sym p)))
+
+  comes-in : (s : State) (i e : ℕ) (b : Bool)
+      → cond b (arrived s i) s .ready e ≡ (arrivesAt e (cond b (arrival i) quiet) || (s .ready e && true))
+  comes-in s i e true = λ x. swapped e i x || and-true (s .ready e) x
+  comes-in s i e false = and-true (s .ready e)
+
+  lasts : (s : State) (o : Op) (e : ℕ)
+      → step top taken (honest top) s o .ready e ≡ (arrivesAt e (event top taken (honest top) s o) || (s .ready e && not (takes top taken (honest top) s o e)))
+  lasts s (arrive i) e = comes-in s i e (accepts top s i)
+  lasts s (collect i) e = and-true (s .ready e)
+  lasts s (take i) e = refl
+  lasts s (raise b) e = and-true (s .ready e)
+  lasts s irq e = and-true (s .ready e)
+  lasts s poll e =
+      at (all-wait s (s .bus .reset) (s .bus .resume) (s .bus .suspend)) e
+      ∙ (λ x. sym (is-down (arrivesAt e (honest top s .event)) (none-comes s e)) x || and-true (s .ready e) x)
+
+  pub honest-until-taken : UntilTaken (small top (honest top))
+  honest-until-taken = record { first = λ e ep. refl; each = λ e ep h o. lasts (after (small top (honest top)) h) o e }
 
   comes : (e : ℕ) (b : Bool) → T b → T (arrivesAt e (cond b (arrival e) quiet))
   comes e true t = eqb-refl e
   comes e false t = absurd t
 
-  pub honest-not-empty : NotEmpty (small top (honest top)) (calls top (honest top))
+  pub honest-not-empty : NotEmpty (small top (honest top)) (calls top taken (honest top))
   honest-not-empty =
       record {
+        untilTaken = honest-until-taken;
         good = λ h. tt;
         polled = λ h o q. let s = after (small top (honest top)) h in
-            subst (λ (o : Op). T (isAnsweredPoll (event top (honest top) s o))) (sym q) (answered s (s .bus .reset) (s .bus .resume) (s .bus .suspend));
-        taken = λ h o q. subst (λ (o : Op). T (isInterrupt (event top (honest top) (after (small top (honest top)) h) o))) (sym q) tt;
+            subst (λ (o : Op). T (isAnsweredPoll (event top taken (honest top) s o))) (sym q) (answered s (s .bus .reset) (s .bus .resume) (s .bus .suspend));
+        taken = λ h o q. subst (λ (o : Op). T (isInterrupt (event top taken (honest top) (after (small top (honest top)) h) o))) (sym q) tt;
         arrived = λ h e o q w. let s = after (small top (honest top)) h in
-            subst (λ (o : Op). T (arrivesAt e (event top (honest top) s o))) (sym (q .1)) (comes e (accepts top s e) (and-both (leb e top) (not (s .ready e)) (le→leb e top (q .0)) w));
+            subst (λ (o : Op). T (arrivesAt e (event top taken (honest top) s o))) (sym (q .1)) (comes e (accepts top s e) (and-both (leb e top) (not (s .ready e)) (le→leb e top (q .0)) w));
+        read = λ h e ep o q w. subst (λ (o : Op). T (takes top taken (honest top) (after (small top (honest top)) h) o e)) (sym q) (eqb-refl e);
       }
 
+  refuser-lawful : Lawful (small top (refuses top)) (λ s. T true) (look asIs top taken (refuses top))
+  refuser-lawful = lawful asIs top taken (refuses top) (λ s. same (taken s)) (idle asIs top taken (refuses top)) (λ s e. tt)
+
   pub refuses-sentences : Sentences (small top (refuses top))
-  refuses-sentences = sentences (lawful top (refuses top) (idle top (refuses top)) (λ s e. tt))
+  refuses-sentences = sentences refuser-lawful (round-after refuser-lawful)

@@ -6,6 +6,7 @@ pub mod Waiting
 pub mod False
 pub mod Sent
 pub mod Third
+pub mod Taken
 pub mod Sentences
 pub mod Walk
 pub mod Honest

@@ -7,9 +7,10 @@ use Prim.Native.Nat.{ℕ}
 use lib.Dec.{T}
 use Rattle.rounds.specs.Machine.{Event, arrival, interrupt, round, pause, quiet, Machine, isRound, readsSent, namesSent, run, after, some, endsInRound}
 use Rattle.rounds.specs.Sentences.{Endpoint, SentExactly}
+use Rattle.rounds.specs.Laws.{Look, Does, Lawful}
 use Rattle.rounds.proofs.Events.{at-round}
 use Rattle.rounds.proofs.Tests.{neither}
-use Rattle.rounds.proofs.Lawful.{Look, Does, Lawful, good-run, good-after}
+use Rattle.rounds.proofs.Lawful.{good-run, good-after}
 
 module _ {M : Machine} {Good : M .State → Type 0} {L : Look M} (W : Lawful M Good L) where
   module _ (e : ℕ) (ep : Endpoint M e) where

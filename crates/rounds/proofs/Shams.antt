@@ -1,13 +1,13 @@
 -- Each sham breaks a sentence: a history that shows it, computed, on a machine with the display's endpoints.
 -- Assumes nothing.
 use mathlib.Core.Path.{refl}
-use mathlib.Core.Bool.{true, false, true≢false, false≢true}
+use mathlib.Core.Bool.{true≢false, false≢true}
 use mathlib.Core.List.{[], _∷_}
 use Prim.Native.Nat.{ℕ}
 use native.Mathlib.Nat.{not-suc-le-zero}
 use native.Mathlib.Omega.{arith}
-use Rattle.rounds.specs.Sentences.{Endpoint, Named, FewFalse, SentExactly, ThirdIsRound, NotEmpty}
-use Rattle.rounds.specs.Shams.{State, Polled, arrive, collect, take, irq, poll, calls, display, neverClears, clearsWaiting, keepsSent, hidesReceive, hidesSent, repeats, alwaysNone, alwaysReset, refuses}
+use Rattle.rounds.specs.Sentences.{Endpoint, Named, FewFalse, SentExactly, UntilTaken, ThirdIsRound, NotEmpty}
+use Rattle.rounds.specs.Shams.{State, Polled, arrive, collect, take, irq, poll, taken, calls, display, neverClears, clearsWaiting, keepsSent, hidesReceive, hidesSent, repeats, throwsAway, throwsTaken, alwaysNone, alwaysReset, refuses}
 
 one : (ask : (top : ℕ) → State → Polled) → Endpoint (display ask) 1
 one ask = record { low = omega arith; high = omega arith }
@@ -38,11 +38,18 @@ keepsSent-out exactly =
 pub hidesSent-out : SentExactly (display hidesSent) → ⊥
 hidesSent-out exactly = false≢true (exactly 1 (one hidesSent) [] (collect 1 ∷ irq ∷ []) poll (record { since = tt; between = tt; polled = tt }))
 
+-- gone after the poll that named it, or before any could
+pub throwsAway-out : UntilTaken (display throwsAway) → ⊥
+throwsAway-out lasts = false≢true (lasts .each 1 (one throwsAway) (arrive 1 ∷ irq ∷ []) poll)
+
+pub throwsTaken-out : UntilTaken (throwsTaken 5) → ⊥
+throwsTaken-out lasts = false≢true (lasts .each 1 (record { low = omega arith; high = omega arith }) (arrive 1 ∷ []) irq)
+
 -- three polls with nothing taken at all
 pub alwaysReset-out : ThirdIsRound (display alwaysReset) → ⊥
 alwaysReset-out third =
     third [] poll [] poll [] poll (record { awake = tt; first = tt; between = tt; second = tt; between′ = tt; third = tt })
 
 -- a poll that is lent enough, and refused
-pub refuses-out : NotEmpty (display refuses) (calls 5 (refuses 5)) → ⊥
+pub refuses-out : NotEmpty (display refuses) (calls 5 taken (refuses 5)) → ⊥
 refuses-out promised = promised .polled [] poll refl

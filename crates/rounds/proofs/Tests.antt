@@ -1,5 +1,6 @@
 -- Tests that are joined, taken apart.
 -- Assumes nothing.
+use mathlib.Core.Path.{_≡_, refl}
 use mathlib.Core.Logic.{_⊎_, inl, inr}
 use mathlib.Core.Bool.{Bool, true, false, not, _&&_, _||_}
 use lib.Dec.{T, T-not, not-T}
@@ -40,3 +41,11 @@ and-both false b x y = x
 pub put-down : (a b : Bool) → T b → T (not (a && not b))
 put-down true b t = not-T (not b) (λ n. T-not b n t)
 put-down false b t = tt
+
+pub and-true : (a : Bool) → a ≡ (a && true)
+and-true true = refl
+and-true false = refl
+
+pub is-down : (a : Bool) → T (not a) → a ≡ false
+is-down true t = absurd t
+is-down false t = refl

@@ -1,39 +1,49 @@
--- Sentence 4: each answered poll that is no round puts down reset or resume, and these are two.
+-- Sentence 4: each answered poll that is no round puts down one of the flags that are reported first, and these are so many at most.
 -- Assumes nothing.
 use mathlib.Core.Path.{_≡_, refl, _∙_}
 use mathlib.Core.Logic.{_⊎_, inl, inr}
-use mathlib.Core.Bool.{true, false, not, or-false}
+use mathlib.Core.Bool.{Bool, true, false, not, _||_}
 use mathlib.Core.List.{List, [], _∷_}
-use Prim.Native.Nat.{ℕ, _≤_, _<_}
+use Prim.Native.Nat.{ℕ, suc, _+_, _≤_, _<_}
 use native.Mathlib.Omega.{arith}
 use lib.Dec.{T}
 use Rattle.rounds.specs.Machine.{Event, arrival, interrupt, round, pause, quiet, Machine, isRound, isAnsweredPoll, isInterrupt, takesSuspend, run, after, some}
-use Rattle.rounds.specs.Sentences.{ThirdIsRound}
+use Rattle.rounds.specs.Sentences.{ThirdIsRound, Polls, none, more, RoundAfter}
+use Rattle.rounds.specs.Laws.{Look, Falls, Does, Lawful}
 use Rattle.rounds.proofs.Events.{at-poll}
 use Rattle.rounds.proofs.Tests.{neither}
-use Rattle.rounds.proofs.Lawful.{Look, Falls, Does, Lawful, good-run, good-after}
+use Rattle.rounds.proofs.Lawful.{good-run, good-after}
 
--- two steps down from two
-none-left : (a b c d e : ℕ) → a ≤ 2 → (b ≡ 0) ⊎ (b < a) → c ≤ b → (d ≡ 0) ⊎ (d < c) → e ≤ d → e ≡ 0
-none-left a b c d e two p f (inl y) g = omega arith
-none-left a b c d e two (inl x) f (inr y) g = omega arith
-none-left a b c d e two (inr x) f (inr y) g = omega arith
+-- a poll more: with n of them before, none is up or n have been put down
+one-more : (a b c d n : ℕ) → (b ≡ 0) ⊎ (b + n ≤ a) → (c ≡ 0) ⊎ (c < b) → d ≤ c → (d ≡ 0) ⊎ (d + suc n ≤ a)
+one-more a b c d n p (inl y) f = inl (omega arith)
+one-more a b c d n (inl x) (inr y) f = absurd (omega arith)
+one-more a b c d n (inr x) (inr y) f = inr (omega arith)
+
+none-left : (a b n : ℕ) → a ≤ n → (b ≡ 0) ⊎ (b + n ≤ a) → b ≡ 0
+none-left a b n h (inl x) = x
+none-left a b n h (inr x) = omega arith
+
+-- neither of two tests passes
+both-down : (a b : Bool) → a ≡ false → T (not b) → (a || b) ≡ false
+both-down true b p n = p
+both-down false true p n = absurd n
+both-down false false p n = refl
 
 module _ {M : Machine} {Good : M .State → Type 0} {L : Look M} (W : Lawful M Good L) where
-  -- with no suspend taken the suspend flag stays down
-  stays-awake : (s t : M .State) (v : Event) → Does L s v t → T (not (takesSuspend v)) → L .asleep s ≡ false → L .asleep t ≡ false
-  stays-awake s t (arrival e) d n a = d .bus .asleep ∙ a
-  stays-awake s t (interrupt reads true) d n a = absurd n
-  stays-awake s t (interrupt reads false) d n a = d .asleep ∙ or-false (L .asleep s) ∙ a
-  stays-awake s t (round out complete) d n a = d .bus .asleep ∙ a
-  stays-awake s t pause d n a = d .same .bus .asleep ∙ a
-  stays-awake s t quiet d n a = d .bus .asleep ∙ a
+  -- with nothing taken that excuses, nothing is excused
+  stays-bound : (s t : M .State) (v : Event) → Does L s v t → T (not (L .excuse v)) → L .excused s ≡ false → L .excused t ≡ false
+  stays-bound s t (arrival e) d n a = d .bus .excused ∙ a
+  stays-bound s t (interrupt reads suspend) d n a = d .excused ∙ both-down (L .excused s) (L .excuse (interrupt reads suspend)) a n
+  stays-bound s t (round out complete) d n a = d .bus .excused ∙ a
+  stays-bound s t pause d n a = d .same .bus .excused ∙ a
+  stays-bound s t quiet d n a = d .bus .excused ∙ a
 
-  awake : (s : M .State) (k : List (M .Op)) → Good s → T (not (some M takesSuspend s k)) → L .asleep s ≡ false → L .asleep (run M s k) ≡ false
-  awake s [] g n a = a
-  awake s (o ∷ k) g n a =
-      let c = neither (takesSuspend (M .event s o)) (some M takesSuspend (M .step s o) k) n in
-      awake (M .step s o) k (W .good-step s o g) (c .1) (stays-awake s (M .step s o) (M .event s o) (W .does s o g) (c .0) a)
+  bound : (s : M .State) (k : List (M .Op)) → Good s → T (not (some M (L .excuse) s k)) → L .excused s ≡ false → L .excused (run M s k) ≡ false
+  bound s [] g n a = a
+  bound s (o ∷ k) g n a =
+      let c = neither (L .excuse (M .event s o)) (some M (L .excuse) (M .step s o) k) n in
+      bound (M .step s o) k (W .good-step s o g) (c .1) (stays-bound s (M .step s o) (M .event s o) (W .does s o g) (c .0) a)
 
   -- with no interrupt taken the bus flags only fall
   falls : (s t : M .State) (v : Event) → Does L s v t → T (not (isInterrupt v)) → Falls L s t
@@ -44,16 +54,16 @@ module _ {M : Machine} {Good : M .State → Type 0} {L : Look M} (W : Lawful M G
   falls s t quiet d n = d .bus
 
   fallen : (s : M .State) (k : List (M .Op)) → Good s → T (not (some M isInterrupt s k)) → Falls L s (run M s k)
-  fallen s [] g n = record { up = omega arith; asleep = refl }
+  fallen s [] g n = record { up = omega arith; excused = refl }
   fallen s (o ∷ k) g n =
       let c = neither (isInterrupt (M .event s o)) (some M isInterrupt (M .step s o) k) n in
       let a = falls s (M .step s o) (M .event s o) (W .does s o g) (c .0) in
       let b = fallen (M .step s o) k (W .good-step s o g) (c .1) in
-      record { up = omega arith; asleep = b .asleep ∙ a .asleep }
+      record { up = omega arith; excused = b .excused ∙ a .excused }
 
   -- an answered poll and what follows it up to the next interrupt
   pub record Poll (s t : M .State) : Type 0 where
-    pub down : L .asleep s ≡ false → (L .up t ≡ 0) ⊎ (L .up t < L .up s)
+    pub down : L .excused s ≡ false → (L .up t ≡ 0) ⊎ (L .up t < L .up s)
     pub bus : Falls L s t
 
   poll : (s t : M .State) (v : Event) → Does L s v t → T (isAnsweredPoll v) → Poll s t
@@ -62,25 +72,37 @@ module _ {M : Machine} {Good : M .State → Type 0} {L : Look M} (W : Lawful M G
       (λ out complete d. let u = d .bus .up in record { down = λ a. inl (omega (arith, u, d .none-up)); bus = d .bus })
       (λ d. record { down = λ a. inr (d .less a); bus = d .same .bus }) v p d
 
-  is-round : (s t : M .State) (v : Event) → Does L s v t → T (isAnsweredPoll v) → L .asleep s ≡ false → L .up s ≡ 0 → T (isRound v)
-  is-round s t v d p a none =
-      at-poll (λ v. Does L s v t → T (isRound v)) (λ out complete d. tt) (λ d. let u = d .less a in absurd (omega (arith, u, none))) v p d
+  is-round : (s t : M .State) (v : Event) → Does L s v t → T (isAnsweredPoll v) → L .excused s ≡ false → L .up s ≡ 0 → T (isRound v)
+  is-round s t v d p a zero-up =
+      at-poll (λ v. Does L s v t → T (isRound v)) (λ out complete d. tt) (λ d. let u = d .less a in absurd (omega (arith, u, zero-up))) v p d
 
-  pub third-is-round : ThirdIsRound M
-  third-is-round h p k q l r c =
-      let s₁ = after M h in
-      let t₁ = M .step s₁ p in
-      let s₂ = run M t₁ k in
-      let t₂ = M .step s₂ q in
-      let s₃ = run M t₂ l in
-      let g₁ = good-after W h in
-      let g₂ = good-run W s₁ (p ∷ k) g₁ in
-      let g₃ = good-run W s₂ (q ∷ l) g₂ in
-      let p₁ = poll s₁ t₁ (M .event s₁ p) (W .does s₁ p g₁) (c .first) in
-      let f₁ = fallen t₁ k (W .good-step s₁ p g₁) (c .between) in
-      let p₂ = poll s₂ t₂ (M .event s₂ q) (W .does s₂ q g₂) (c .second) in
-      let f₂ = fallen t₂ l (W .good-step s₂ q g₂) (c .between′) in
-      let a₁ = awake (M .fresh) h (W .good-fresh) (c .awake) (W .awake-fresh) in
-      let a₂ = f₁ .asleep ∙ p₁ .bus .asleep ∙ a₁ in
-      is-round s₃ (M .step s₃ r) (M .event s₃ r) (W .does s₃ r g₃) (c .third) (f₂ .asleep ∙ p₂ .bus .asleep ∙ a₂)
-      (none-left (L .up s₁) (L .up t₁) (L .up s₂) (L .up t₂) (L .up s₃) (W .two s₁) (p₁ .down a₁) (f₁ .up) (p₂ .down a₂) (f₂ .up))
+  -- after n answered polls
+  pub record Polled (s : M .State) (n : ℕ) (t : M .State) : Type 0 where
+    pub good : Good t
+    pub bound : L .excused t ≡ false
+    pub down : (L .up t ≡ 0) ⊎ (L .up t + n ≤ L .up s)
+
+  polled : {s t : M .State} {n : ℕ} → Good s → L .excused s ≡ false → Polls M s n t → Polled s n t
+  polled g a none = record { good = g; bound = a; down = inr (omega arith) }
+  polled {s} g a (more {n} {t} r p k answered between) =
+      let i = polled g a r in
+      let u = M .step t p in
+      let q = poll t u (M .event t p) (W .does t p (i .good)) answered in
+      let f = fallen u k (W .good-step t p (i .good)) between in
+      record {
+        good = good-run W t (p ∷ k) (i .good);
+        bound = f .excused ∙ q .bus .excused ∙ i .bound;
+        down = one-more (L .up s) (L .up t) (L .up u) (L .up (run M u k)) n (i .down) (q .down (i .bound)) (f .up);
+      }
+
+  pub round-after : RoundAfter M (L .most) (L .excuse)
+  round-after h t p free polls answered =
+      let i = polled (good-after W h) (bound (M .fresh) h (W .good-fresh) free (W .excused-fresh)) polls in
+      is-round t (M .step t p) (M .event t p) (W .does t p (i .good)) answered (i .bound)
+      (none-left (L .up (after M h)) (L .up t) (L .most) (W .most (after M h)) (i .down))
+
+-- the customer's sentence is the one with two polls before, and a suspend as the excuse
+pub third-is-round : {M : Machine} → RoundAfter M 2 takesSuspend → ThirdIsRound M
+third-is-round {M} after-two h p k q l r c =
+    after-two h (run M (run M (after M h) (p ∷ k)) (q ∷ l)) r (c .awake)
+    (more (more none p k (c .first) (c .between)) q l (c .second) (c .between′)) (c .third)

@@ -8,9 +8,10 @@ use Prim.Native.Nat.{ℕ}
 use lib.Dec.{T, eqb, eqb→eq, eqb-refl}
 use Rattle.rounds.specs.Machine.{Event, arrival, interrupt, round, pause, quiet, Machine, isRound, isInterrupt, names, arrivesAt, run, after, some, Stays}
 use Rattle.rounds.specs.Sentences.{Endpoint, Named, SamePacket}
+use Rattle.rounds.specs.Laws.{Look, Does, Lawful}
 use Rattle.rounds.proofs.Events.{at-round, at-interrupt, at-arrival}
 use Rattle.rounds.proofs.Tests.{or-cases, or-left, or-right, nor}
-use Rattle.rounds.proofs.Lawful.{Look, Does, Lawful, good-run, good-after}
+use Rattle.rounds.proofs.Lawful.{good-run, good-after}
 
 -- a test that is equal to one that passes
 back : {a b : Bool} → a ≡ b → T b → T a

@@ -1,3 +1,4 @@
 pub mod Machine
 pub mod Sentences
+pub mod Laws
 pub mod Shams

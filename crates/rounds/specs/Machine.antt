@@ -22,6 +22,7 @@ pub record Machine : Type 1 where
   pub step : State → Op → State
   pub event : State → Op → Event
   pub waiting : State → ℕ → Bool  -- the endpoint's RxPktRdy is set: a packet waits there, an empty one too
+  pub takes : State → Op → ℕ → Bool  -- the operation is answered, and takes what waits at the endpoint
 
 -- a round: "an answered poll that is neither Reset, Resume nor Suspend"
 abbrev pub isRound : Event → Bool
@@ -112,6 +113,11 @@ module _ (M : Machine) where
   abbrev pub Stays : ℕ → M .State → List (M .Op) → Type 0
   Stays e s [] = T (M .waiting s e)
   Stays e s (o ∷ k) = T (M .waiting s e) × Stays e (M .step s o) k
+
+  -- some operation of k from s on takes what waits at e
+  abbrev pub taken : ℕ → M .State → List (M .Op) → Bool
+  taken e s [] = false
+  taken e s (o ∷ k) = M .takes s o e || taken e (M .step s o) k
 
   -- how many rounds name e for reading with nothing waiting there just before
   abbrev pub falseNamings : ℕ → M .State → List (M .Op) → ℕ

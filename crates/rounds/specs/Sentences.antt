@@ -1,11 +1,11 @@
--- Demand 3's four sentences over any machine, and that they are not empty.
+-- Demand 3's four sentences over any machine, that a packet waits until it is taken, and that the sentences are not empty.
 -- Assumes nothing.
 use mathlib.Core.Path.{_≡_}
-use mathlib.Core.Bool.{Bool, true, not}
+use mathlib.Core.Bool.{Bool, true, false, not, _&&_, _||_}
 use mathlib.Core.List.{List, _∷_}
-use Prim.Native.Nat.{ℕ, _≤_}
+use Prim.Native.Nat.{ℕ, suc, _≤_}
 use lib.Dec.{T}
-use Rattle.rounds.specs.Machine.{Event, Machine, isRound, isAnsweredPoll, isInterrupt, takesSuspend, readsSent, names, namesSent, arrivesAt, run, after, some, Stays, falseNamings, arrivalsAbove, endsInRound}
+use Rattle.rounds.specs.Machine.{Event, Machine, isRound, isAnsweredPoll, isInterrupt, takesSuspend, readsSent, names, namesSent, arrivesAt, run, after, some, Stays, taken, falseNamings, arrivalsAbove, endsInRound}
 
 module _ (M : Machine) where
   abbrev History : Type 0
@@ -56,18 +56,54 @@ module _ (M : Machine) where
   -- 4. "While no suspend has been taken, of three answered polls with no interrupt taken between them the third is a round."
 
   -- The polls are p after h, q after k more, and r after l more. No interrupt is taken in k and l, so that a suspend could be in h only.
+  -- Where the second and the third stand.
+  abbrev pub atSecond : History → M .Op → History → M .State
+  atSecond h p k = run M (after M h) (p ∷ k)
+
+  abbrev pub atThird : History → M .Op → History → M .Op → History → M .State
+  atThird h p k q l = run M (atSecond h p k) (q ∷ l)
+
   pub record ThreePolls (h : History) (p : M .Op) (k : History) (q : M .Op) (l : History) (r : M .Op) : Type 0 where
     pub awake : T (not (some M takesSuspend (M .fresh) h))
     pub first : T (isAnsweredPoll (M .event (after M h) p))
     pub between : T (not (some M isInterrupt (M .step (after M h) p) k))
-    pub second : T (isAnsweredPoll (M .event (run M (after M h) (p ∷ k)) q))
-    pub between′ : T (not (some M isInterrupt (M .step (run M (after M h) (p ∷ k)) q) l))
-    pub third : T (isAnsweredPoll (M .event (run M (run M (after M h) (p ∷ k)) (q ∷ l)) r))
+    pub second : T (isAnsweredPoll (M .event (atSecond h p k) q))
+    pub between′ : T (not (some M isInterrupt (M .step (atSecond h p k) q) l))
+    pub third : T (isAnsweredPoll (M .event (atThird h p k q l) r))
 
   abbrev pub ThirdIsRound : Type 0
   ThirdIsRound =
       (h : History) (p : M .Op) (k : History) (q : M .Op) (l : History) (r : M .Op)
-      → ThreePolls h p k q l r → T (isRound (M .event (run M (run M (after M h) (p ∷ k)) (q ∷ l)) r))
+      → ThreePolls h p k q l r → T (isRound (M .event (atThird h p k q l) r))
+
+  -- The same with any number of polls, and any interrupt as the excuse. From s on there are n answered polls, each with more operations
+  -- after it in which no interrupt is taken, and they lead to the last state.
+  pub data Polls (s : M .State) : ℕ → M .State → Type 0 where
+    none : Polls s 0 s
+    more : {n : ℕ} {t : M .State} → Polls s n t → (p : M .Op) (k : History)
+        → T (isAnsweredPoll (M .event t p)) → T (not (some M isInterrupt (M .step t p) k)) → Polls s (suc n) (run M t (p ∷ k))
+
+  -- After n answered polls with no interrupt taken between them an answered poll is a round, while nothing that excuses it has been taken.
+  -- `RoundAfter 2 takesSuspend` is sentence 4: it gives `ThirdIsRound`.
+  abbrev pub RoundAfter : ℕ → (Event → Bool) → Type 0
+  RoundAfter n excuse =
+      (h : History) (t : M .State) (p : M .Op)
+      → T (not (some M excuse (M .fresh) h)) → Polls (after M h) n t → T (isAnsweredPoll (M .event t p)) → T (isRound (M .event t p))
+
+  -- Beside the four, or a driver that names every packet and throws it away would keep them: at first nothing waits, and then there
+  -- waits at each endpoint what arrives there, until an answered operation takes it. No packet comes or goes in any other way.
+  pub record UntilTaken : Type 0 where
+    pub first : (e : ℕ) → Endpoint e → M .waiting (M .fresh) e ≡ false
+    pub each :
+        (e : ℕ) → Endpoint e → (h : History) (o : M .Op)
+        → M .waiting (M .step (after M h) o) e
+        ≡ (arrivesAt e (M .event (after M h) o) || (M .waiting (after M h) e && not (M .takes (after M h) o e)))
+
+  -- So a packet that arrived, and that nothing has taken since, is still waiting: sentence 1's premise `still` holds of it.
+  abbrev pub StillThere : Type 0
+  StillThere =
+      (e : ℕ) → Endpoint e → (h : History) (a : M .Op) (k : History)
+      → T (arrivesAt e (M .event (after M h) a)) → T (not (taken M e (M .step (after M h) a) k)) → Stays M e (M .step (after M h) a) k
 
   pub record Sentences : Type 0 where
     pub named : Named
@@ -82,9 +118,12 @@ pub record Calls (M : Machine) : Type 1 where
   pub Poll : M .Op → Type 0  -- a poll that is lent enough
   pub Interrupt : M .Op → Type 0  -- an interrupt
   pub Arrival : M .State → ℕ → M .Op → Type 0  -- an arrival at an endpoint, of a packet that fits there, lent enough
+  pub Read : M .State → ℕ → M .Op → Type 0  -- a read at an endpoint, lent enough
 
 module _ (M : Machine) (C : Calls M) where
   pub record NotEmpty : Type 0 where
+    -- what arrived waits until it is taken
+    pub untilTaken : UntilTaken M
     -- every record of a history is good
     pub good : (h : List (M .Op)) → C .Good (after M h)
     -- a poll that is lent enough is answered
@@ -93,3 +132,5 @@ module _ (M : Machine) (C : Calls M) where
     pub taken : (h : List (M .Op)) (o : M .Op) → C .Interrupt o → T (isInterrupt (M .event (after M h) o))
     -- an arrival that fits, where none waits, lent enough, is answered
     pub arrived : (h : List (M .Op)) (e : ℕ) (o : M .Op) → C .Arrival (after M h) e o → T (not (M .waiting (after M h) e)) → T (arrivesAt e (M .event (after M h) o))
+    -- a read where a packet waits, lent enough, is answered, and takes it
+    pub read : (h : List (M .Op)) (e : ℕ) → Endpoint M e → (o : M .Op) → C .Read (after M h) e o → T (M .waiting (after M h) e) → T (M .takes (after M h) o e)

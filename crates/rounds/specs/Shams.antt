@@ -1,4 +1,5 @@
--- A small machine whose poll can be exchanged: an honest one, and the shams that demand 3 must shut out.
+-- A small machine whose poll and interrupt can be exchanged: an honest one, and the shams that demand 3 must shut out.
+-- Examples: nothing that is promised of the driver rests on this file.
 -- Assumes nothing.
 use mathlib.Core.Path.{_≡_}
 use mathlib.Core.Bool.{Bool, true, false, not, cond, _&&_, _||_}
@@ -88,6 +89,11 @@ abbrev pub withFirst : State → List Event → State
 withFirst s first =
     record { ready = s .ready; due = s .due; gone = s .gone; raised = s .raised; flag = s .flag; sent = s .sent; bus = s .bus; first = first }
 
+-- every packet that waits is thrown away
+abbrev pub thrown : State → State
+thrown s =
+    record { ready = none; due = s .due; gone = s .gone; raised = s .raised; flag = s .flag; sent = s .sent; bus = s .bus; first = s .first }
+
 -- the order of a poll: Reset, Resume, Suspend (which puts down reset and never its own), then a round
 abbrev pub inOrder : Bool → Bool → Bool → State → Polled → Polled
 inOrder true resume suspend s r =
@@ -97,6 +103,14 @@ inOrder false true suspend s r =
 inOrder false false true s r =
     record { event = pause; state = withBus s (record { reset = false; resume = s .bus .resume; suspend = s .bus .suspend }) }
 inOrder false false false s r = r
+
+-- the same with a mended Suspend step, which puts down its own flag and leaves reset's
+abbrev pub inMendedOrder : Bool → Bool → Bool → State → Polled → Polled
+inMendedOrder true resume suspend s r = inOrder true resume suspend s r
+inMendedOrder false true suspend s r = inOrder false true suspend s r
+inMendedOrder false false true s r =
+    record { event = pause; state = withBus s (record { reset = s .bus .reset; resume = s .bus .resume; suspend = false }) }
+inMendedOrder false false false s r = r
 
 -- a poll that names `out` and `complete` in its rounds, and leaves the flags `flag` and `sent`
 abbrev pub polling : (out complete flag sent : State → ℕ → Bool) → State → Polled
@@ -118,13 +132,14 @@ module _ (top : ℕ) where
   abbrev pub accepts : State → ℕ → Bool
   accepts s e = leb e top && not (s .ready e)
 
-  module _ (ask : State → Polled) where
+  -- a machine whose interrupt is `on` and whose poll is `ask`
+  module _ (on : State → State) (ask : State → Polled) where
     abbrev pub step : State → Op → State
     step s (arrive e) = cond (accepts s e) (arrived s e) s
     step s (collect e) = collected s e
     step s (take e) = emptied s e
     step s (raise b) = busRaised s b
-    step s irq = taken s
+    step s irq = on s
     step s poll = ask s .state
 
     abbrev pub event : State → Op → Event
@@ -135,12 +150,24 @@ module _ (top : ℕ) where
     event s irq = interrupt (s .gone) (s .raised .suspend)
     event s poll = ask s .event
 
-    abbrev pub small : Machine
-    small =
-        record { top = top; State = State; Op = Op; fresh = start; step = step; event = event; waiting = λ s e. s .ready e }
+    -- a packet is taken by being read
+    abbrev pub takes : State → Op → ℕ → Bool
+    takes s (arrive i) e = false
+    takes s (collect i) e = false
+    takes s (take i) e = eqb e i
+    takes s (raise b) e = false
+    takes s irq e = false
+    takes s poll e = false
 
-    abbrev pub calls : Calls small
-    calls = record { Good = λ s. T true; Poll = λ o. o ≡ poll; Interrupt = λ o. o ≡ irq; Arrival = λ s e o. (e ≤ top) × (o ≡ arrive e) }
+    abbrev pub machine : Machine
+    machine =
+        record { top = top; State = State; Op = Op; fresh = start; step = step; event = event; waiting = λ s e. s .ready e; takes = takes }
+
+    abbrev pub calls : Calls machine
+    calls = record { Good = λ s. T true; Poll = λ o. o ≡ poll; Interrupt = λ o. o ≡ irq; Arrival = λ s e o. (e ≤ top) × (o ≡ arrive e); Read = λ s e o. o ≡ take e }
+
+  abbrev pub small : (State → Polled) → Machine
+  small ask = machine taken ask
 
   -- the walk: "one round clears only the highest drained one"
   abbrev pub walked : State → ℕ → Bool
@@ -148,6 +175,12 @@ module _ (top : ℕ) where
 
   abbrev pub honest : State → Polled
   honest = polling walked (λ s. s .sent) walked (λ s. none)
+
+  -- honest, with the Suspend step mended
+  abbrev pub mended : State → Polled
+  mended s =
+      inMendedOrder (s .bus .reset) (s .bus .resume) (s .bus .suspend) s
+      (record { event = round (walked s) (s .sent); state = withFlags s (walked s) none })
 
   -- never clears a flag
   abbrev pub neverClears : State → Polled
@@ -176,6 +209,10 @@ module _ (top : ℕ) where
   abbrev pub repeats : State → Polled
   repeats s = again (s .first) s
 
+  -- names every packet, and throws it away before it can be read: all four sentences hold of it
+  abbrev pub throwsAway : State → Polled
+  throwsAway s = let p = honest s in record { event = p .event; state = thrown (p .state) }
+
   abbrev pub alwaysNone : State → Polled
   alwaysNone s = record { event = round none none; state = s }
 
@@ -185,6 +222,10 @@ module _ (top : ℕ) where
   -- refuses every poll: all four sentences hold of it
   abbrev pub refuses : State → Polled
   refuses s = record { event = quiet; state = s }
+
+-- honestly polled, but its interrupt throws every packet away: all four sentences hold of it too
+abbrev pub throwsTaken : ℕ → Machine
+throwsTaken top = machine top (λ s. thrown (taken s)) (honest top)
 
 -- the small machine with the display's endpoints, polled by one of these
 abbrev pub display : ((top : ℕ) → State → Polled) → Machine
