@@ -85,16 +85,22 @@ pub fn modify_txcsrl(w: &mut [u16; 46], list: &mut [u16], n: usize, s: TxcsrlSet
     requires { ⌜ n * 3 + 3 ≤ length (now list) ⌝ }
     ensures { λ m. ⌜ (log (now (w .exit)) (now (list .exit)) m ≡ modifyTxcsrl s (log (now (w .entry)) (now (list .entry)) n)) × (m ≡ n + 1) ⌝ }
 {
-    let v = csr::txcsrl_set(s, regs::read_txcsrl(w));
-    write_txcsrl(w, list, n, v)
+    let e = w[regs::INDEX];
+    let side = regs::side_at(w, e, Direction::In);
+    let v = csr::txcsrl_set(s, csr::txcsrl_of(side));
+    regs::put_side(w, e, Direction::In, csr::tx_stored(v, side));
+    note(w, list, n, store_list::TXCSRL, csr::txcsrl_number(v))
 }
 
 pub fn modify_rxcsrl(w: &mut [u16; 46], list: &mut [u16], n: usize, s: RxcsrlSet) -> usize
     requires { ⌜ n * 3 + 3 ≤ length (now list) ⌝ }
     ensures { λ m. ⌜ (log (now (w .exit)) (now (list .exit)) m ≡ modifyRxcsrl s (log (now (w .entry)) (now (list .entry)) n)) × (m ≡ n + 1) ⌝ }
 {
-    let v = csr::rxcsrl_set(s, regs::read_rxcsrl(w));
-    write_rxcsrl(w, list, n, v)
+    let e = w[regs::INDEX];
+    let side = regs::side_at(w, e, Direction::Out);
+    let v = csr::rxcsrl_set(s, csr::rxcsrl_of(side));
+    regs::put_side(w, e, Direction::Out, csr::rx_stored(v, side));
+    note(w, list, n, store_list::RXCSRL, csr::rxcsrl_number(v))
 }
 
 // CSR0H reads 0, so that `modify` with the flush bit stores that bit alone.
