@@ -19,8 +19,8 @@ rxcsrl-set-requires c κs = search needs
 rx-stored-requires : tie.Need-rx-stored-requires
 rx-stored-requires c κs = search needs
 
-put-side-requires : tie.Need-put-side-requires
-put-side-requires c κs = search needs
+put-own-requires : tie.Need-put-own-requires
+put-own-requires c κs = search needs
 
 rxcsrl-number-requires : tie.Need-rxcsrl-number-requires
 rxcsrl-number-requires c κs = search needs
@@ -44,7 +44,7 @@ modify-rxcsrl-spec =
     rxcsrl-of-requires
     rxcsrl-set-requires
     rx-stored-requires
-    put-side-requires
+    put-own-requires
     rxcsrl-number-requires
     note-requires
     same-length

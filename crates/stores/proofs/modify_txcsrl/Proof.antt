@@ -19,8 +19,8 @@ txcsrl-set-requires c κs = search needs
 tx-stored-requires : tie.Need-tx-stored-requires
 tx-stored-requires c κs = search needs
 
-put-side-requires : tie.Need-put-side-requires
-put-side-requires c κs = search needs
+put-own-requires : tie.Need-put-own-requires
+put-own-requires c κs = search needs
 
 txcsrl-number-requires : tie.Need-txcsrl-number-requires
 txcsrl-number-requires c κs = search needs
@@ -44,7 +44,7 @@ modify-txcsrl-spec =
     txcsrl-of-requires
     txcsrl-set-requires
     tx-stored-requires
-    put-side-requires
+    put-own-requires
     txcsrl-number-requires
     note-requires
     same-length
