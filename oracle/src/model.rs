@@ -172,6 +172,15 @@ impl Model {
         &mut self.rx[self.selected()]
     }
 
+    /// The same for a store, which changes nothing while endpoint 0 is selected.
+    fn stored_tx(&mut self) -> Option<&mut Side> {
+        (self.index != 0).then(|| self.selected_tx())
+    }
+
+    fn stored_rx(&mut self) -> Option<&mut Side> {
+        (self.index != 0).then(|| self.selected_rx())
+    }
+
     /// The original reads the FIFO register: the next byte of the packet received.
     pub fn take_byte(&mut self, endpoint: usize) -> u8 {
         assert!(
@@ -223,7 +232,7 @@ impl Store for Csr0l {
         m.control.sent_stall &= self.sent_stall(); // cleared by a written 0 (reading 3)
         m.tx[0].ready |= self.tx_pkt_rdy();
         if self.serviced_rx_pkt_rdy() {
-            m.rx[0].drop_packet(); // reading 13
+            m.rx[0].drop_packet(); // reading 7
         }
         if self.serviced_setup_end() {
             m.control.setup_end = false;
@@ -267,7 +276,7 @@ pub fn txcsrl_of(side: &Side) -> Txcsrl {
 impl Store for Txcsrl {
     fn store(self, m: &mut Model) {
         m.list(Number::Txcsrl, self.0.into());
-        let side = m.selected_tx();
+        let Some(side) = m.stored_tx() else { return };
         side.send_stall = self.send_stall();
         side.sent_stall &= self.sent_stall();
         side.fault &= self.under_run();
@@ -298,7 +307,7 @@ pub fn rxcsrl_of(side: &Side) -> Rxcsrl {
 impl Store for Rxcsrl {
     fn store(self, m: &mut Model) {
         m.list(Number::Rxcsrl, self.0.into());
-        let side = m.selected_rx();
+        let Some(side) = m.stored_rx() else { return };
         side.send_stall = self.send_stall();
         side.sent_stall &= self.sent_stall();
         side.fault &= self.over_run();
@@ -324,7 +333,9 @@ pub fn txcsrh_of(side: &Side) -> Txcsrh {
 impl Store for Txcsrh {
     fn store(self, m: &mut Model) {
         m.list(Number::Txcsrh, self.0.into());
-        m.selected_tx().iso = self.iso();
+        if let Some(side) = m.stored_tx() {
+            side.iso = self.iso();
+        }
     }
 }
 
@@ -343,7 +354,9 @@ pub fn rxcsrh_of(side: &Side) -> Rxcsrh {
 impl Store for Rxcsrh {
     fn store(self, m: &mut Model) {
         m.list(Number::Rxcsrh, self.0.into());
-        m.selected_rx().iso = self.iso();
+        if let Some(side) = m.stored_rx() {
+            side.iso = self.iso();
+        }
     }
 }
 
@@ -374,14 +387,18 @@ impl Store for Power {
 impl Store for Txmaxp {
     fn store(self, m: &mut Model) {
         m.list(Number::Txmaxp, self.0);
-        m.selected_tx().max_packet = self.0;
+        if let Some(side) = m.stored_tx() {
+            side.max_packet = self.0;
+        }
     }
 }
 
 impl Store for Rxmaxp {
     fn store(self, m: &mut Model) {
         m.list(Number::Rxmaxp, self.0);
-        m.selected_rx().max_packet = self.0;
+        if let Some(side) = m.stored_rx() {
+            side.max_packet = self.0;
+        }
     }
 }
 

@@ -47,6 +47,11 @@ made : (s t : Side) (b : Bool) → t .ready ≡ s .ready → cond b t s .ready �
 made s t true p = p
 made s t false p = refl
 
+-- and where endpoint 0 is selected, which has none of these registers
+skipped : (s t : Side) (b : Bool) → t .ready ≡ s .ready → cond b s t .ready ≡ s .ready
+skipped s t true p = refl
+skipped s t false p = p
+
 one-way : (s : Side) (c : Direction) (f : Side → Side) → f s .ready ≡ s .ready → towards c Out f s .ready ≡ s .ready
 one-way s Out f p = p
 one-way s In f p = refl
@@ -58,9 +63,9 @@ leaves-apart power i e s n a = refl
 leaves-apart (index f) i e s n a = refl
 leaves-apart (csr0l w) i e s n a = rw (ne-eqb e 0 n)
 leaves-apart csr0h i e s n a = rw (ne-eqb e 0 n)
-leaves-apart (txcsrl w) i e s n a = made s s (eqb e i) refl
-leaves-apart (iso c) i e s n a = made s _ (eqb e i) (one-way s c withIso refl)
-leaves-apart (maxp c m) i e s n a = made s _ (eqb e i) (one-way s c (withMaxp m) refl)
+leaves-apart (txcsrl w) i e s n a = skipped s _ (eqb i 0) (made s s (eqb e i) refl)
+leaves-apart (iso c) i e s n a = skipped s _ (eqb i 0) (made s _ (eqb e i) (one-way s c withIso refl))
+leaves-apart (maxp c m) i e s n a = skipped s _ (eqb i 0) (made s _ (eqb e i) (one-way s c (withMaxp m) refl))
 leaves-apart intrusbe i e s n a = refl
 leaves-apart (intre c v) i e s n a = refl
 leaves-apart (packet m) i e s n a = go (eqb m 0)
@@ -83,8 +88,8 @@ repairs r e n none = go (ℕ-discrete e (file.index r))
 
     go : Dec (e ≡ file.index r)
         → leaves (rxcsrl (rxcsrlSet NoOverRun (rxcsrlRead r))) (file.index r) e Out (sideAt r e Out) .ready ≡ sideAt r e Out .ready
-    go (yes p) = rw (eq-eqb e (file.index r) p) (still (sideAt r e Out) (ap (λ (i : ℕ). sideAt r i Out) p) (none e))
-    go (no m) = rw (ne-eqb e (file.index r) m)
+    go (yes p) = skipped _ _ (eqb (file.index r) 0) (rw (eq-eqb e (file.index r) p) (still (sideAt r e Out) (ap (λ (i : ℕ). sideAt r i Out) p) (none e)))
+    go (no m) = skipped _ _ (eqb (file.index r) 0) (rw (ne-eqb e (file.index r) m))
 
 pub leaves-ready : (o : Store) (r : File) (e : ℕ) → (e ≡ 0 → ⊥) → None r → Spares o r
     → leaves o (file.index r) e Out (sideAt r e Out) .ready ≡ sideAt r e Out .ready
@@ -133,12 +138,14 @@ module _ {r : File} {i : ℕ} {gone : ℕ → Bool} where
       }
     where
       here : (e : ℕ) → (e ≡ 0 → ⊥) → e ≡ file.index (h .regs) → leaves (rxcsrl w) (file.index (h .regs)) e Out (sideAt (h .regs) e Out) .ready ≡ false
-      here e n p = rw (eq-eqb e (file.index (h .regs)) p) (ap (λ (j : ℕ). rxStored w (sideAt (h .regs) j Out) .ready) p ∙ d)
+      here e n p = rw (ne-eqb (file.index (h .regs)) 0 (λ z. n (p ∙ z)), eq-eqb e (file.index (h .regs)) p) (ap (λ (j : ℕ). rxStored w (sideAt (h .regs) j Out) .ready) p ∙ d)
 
       side : (e : ℕ) → (e ≡ 0 → ⊥) → Dec (e ≡ i)
           → leaves (rxcsrl w) (file.index (h .regs)) e Out (sideAt (h .regs) e Out) .ready ≡ (sideAt r e Out .ready && not (eqb e i || gone e))
       side e n (yes p) = here e n (p ∙ sym (l .at)) ∙ sym (rw (eq-eqb e i p) (and-zero (sideAt r e Out .ready)))
-      side e n (no m) = rw (ne-eqb e (file.index (h .regs)) (λ p. m (p ∙ l .at)), ne-eqb e i m) (l .ready e n)
+      side e n (no m) =
+          skipped (sideAt (h .regs) e Out) _ (eqb (file.index (h .regs)) 0) (rw (ne-eqb e (file.index (h .regs)) (λ p. m (p ∙ l .at))))
+          ∙ rw (ne-eqb e i m) (l .ready e n)
 
   -- the same by another test
   pub told-by : {gone′ : ℕ → Bool} {h : Log} → ((e : ℕ) → (e ≡ 0 → ⊥) → gone e ≡ gone′ e) → At r i gone h → At r i gone′ h

@@ -28,7 +28,7 @@ use Rattle.stores.proofs.Others.{clean}
 use Rattle.stores.proofs.Halts.{SameStall, halts}
 use Rattle.laws.proofs.Tests.{clash}
 use Rattle.calls.proofs.Packets.{Apart, Spares, leaves-apart, leaves-ready}
-use Rattle.csr.proofs.Tame.{Tame, stays-ok, same, either, one-way, alike, tx-tame, rx-tame, zero-tame, dropped-tame}
+use Rattle.csr.proofs.Tame.{Tame, stays-ok, same, either, spared, one-way, alike, tx-tame, rx-tame, zero-tame, dropped-tame}
 
 -- A step is a store, or a packet with the store that sets its ready bit: between these two a length stands with its ready bit clear.
 pub data Step : Type 0 where
@@ -174,10 +174,10 @@ module _ (b : Board) where
   leaves-tame (csr0l w) i e Out s p = either (eqb e 0) (dropped-tame (w .«serviced_rx_pkt_rdy») s)
   leaves-tame (csr0l w) i e In s p = either (eqb e 0) (zero-tame w s)
   leaves-tame csr0h i e d s p = either (eqb e 0) (dropped-tame true s)
-  leaves-tame (txcsrl w) i e d s p = either (eqb e i) (one-way In d (txStored w) (tx-tame w s))
-  leaves-tame (rxcsrl w) i e d s p = either (eqb e i) (one-way Out d (rxStored w) (rx-tame w s))
-  leaves-tame (iso c) i e d s p = either (eqb e i) (one-way c d withIso (alike refl refl))
-  leaves-tame (maxp c n) i e d s p = either (eqb e i) (one-way c d (withMaxp n) (alike refl refl))
+  leaves-tame (txcsrl w) i e d s p = spared (eqb i 0) (either (eqb e i) (one-way In d (txStored w) (tx-tame w s)))
+  leaves-tame (rxcsrl w) i e d s p = spared (eqb i 0) (either (eqb e i) (one-way Out d (rxStored w) (rx-tame w s)))
+  leaves-tame (iso c) i e d s p = spared (eqb i 0) (either (eqb e i) (one-way c d withIso (alike refl refl)))
+  leaves-tame (maxp c n) i e d s p = spared (eqb i 0) (either (eqb e i) (one-way c d (withMaxp n) (alike refl refl)))
   leaves-tame intrusbe i e d s p = same
   leaves-tame (intre c v) i e d s p = same
   leaves-tame (packet n) i e d s p = rw p same

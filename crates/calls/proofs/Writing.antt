@@ -45,8 +45,8 @@ use Rattle.calls.proofs.Steps.{Reached, none, then, one, Careful, Readi
 use Rattle.calls.proofs.Accounts.{Low, Account, left, stores, by-test, txModify, zeroModify, zero-modifies, there}
 
 -- TxPktRdy is set
-tx-readies : (h : Log) → Readies (txModify txcsrl.TxPktRdy h) (h .regs)
-tx-readies h = rw (eq-eqb (file.index (h .regs)) (file.index (h .regs)) refl) (ap (λ (s : Side). s .ready) (tx-readied (chosen (h .regs) In)))
+tx-readies : (h : Log) → eqb (file.index (h .regs)) 0 ≡ false → Readies (txModify txcsrl.TxPktRdy h) (h .regs)
+tx-readies h n = rw (n, eq-eqb (file.index (h .regs)) (file.index (h .regs)) refl) (ap (λ (s : Side). s .ready) (tx-readied (chosen (h .regs) In)))
 
 zero-readies : (h : Log) → file.index (h .regs) ≡ 0 → Readies (zeroModify csr0l.TxPktRdy h) (h .regs)
 zero-readies h p = at (file.index (h .regs)) p
@@ -85,12 +85,12 @@ module _ (k : Record) (ep n : ℕ) (l : List ℕ) (s : recordSound k ≡ true) (
     unfolding areaIn
     room = rw chosen-at fits
 
-    other-path : Path (modifyTxcsrl txcsrl.TxPktRdy (loaded ep n begun))
+    other-path : eqb ep 0 ≡ false → Path (modifyTxcsrl txcsrl.TxPktRdy (loaded ep n begun))
     unfolding loaded
-    other-path =
+    other-path z =
         rw (modify-txcsrl txcsrl.TxPktRdy (does (packet n) chose))
         (then selects (steps.sent n (txModify txcsrl.TxPktRdy (does (packet n) chose)))
-        ((record { fits = room; proper = tt; readies = tx-readies (does (packet n) chose) }, tx-modified txcsrl.TxPktRdy (does (packet n) chose .regs)), tt))
+        ((record { fits = room; proper = tt; readies = tx-readies (does (packet n) chose) (rw chosen-is z) }, tx-modified txcsrl.TxPktRdy (does (packet n) chose .regs)), tt))
 
     zero-path : ep ≡ 0 → Path (modifyCsr0l csr0l.TxPktRdy (loaded ep n begun))
     unfolding loaded
@@ -142,7 +142,7 @@ module _ (k : Record) (ep n : ℕ) (l : List ℕ) (s : recordSound k ≡ true) (
           → Fine (cond z (sentZero (k .«control_state» .state) n t (k .«control_state») (k .irq) (loaded ep n begun))
           (sentOther (k .«control_state») (k .irq) (loaded ep n begun)))
       go true p u = at-zero t (k .«control_state» .state) (eqb-true ep 0 p) h u
-      go false p u = finish (k .«control_state») (k .irq) _ (other-path h) (λ f. f)
+      go false p u = finish (k .«control_state») (k .irq) _ (other-path h p) (λ f. f)
 
 module _ (k : Record) (ep : ℕ) (b f l : List ℕ) (six : Whole (k .regs .words)) where
   not-long : tooLong k ep (length b) ≡ false → length b ≤ areaIn (k .regs .board) ep In .size

@@ -1,19 +1,71 @@
 -- Document 01's sentences about the control registers of one side, each as a law over the definitions. The sentence stands above its laws.
 -- Assumes nothing.
-use Prim.Native.Nat.{ℕ}
+use Prim.Native.Nat.{ℕ, _*_}
 use mathlib.Core.Path.{_≡_, refl}
-use mathlib.Core.Bool.{true, false}
+use mathlib.Core.Bool.{Bool, true, false, cond}
+use mathlib.Core.List.{[], _∷_}
 use native.Mathlib.Omega.{arith}
 use Rattle.laws.proofs.Tests.{and-zero, and-one, or-zero, or-one}
-use Rattle.board.specs.declared.Direction.the-variants.{Out, In}
 use Rattle.csr.specs.declared.Side.{Side}
 use Rattle.csr.specs.declared.Csr0l.{Csr0l}
 use Rattle.csr.specs.declared.Txcsrl.{Txcsrl}
 use Rattle.csr.specs.declared.Rxcsrl.{Rxcsrl}
-use Rattle.csr.specs.Control.{txStored, rxStored, zeroTxStored, dropped, txcsrlOf, rxcsrlOf}
+use Rattle.csr.specs.Control.{csr0lNumber, txcsrlNumber, rxcsrlNumber, fromBits, txStored, rxStored, zeroTxStored, dropped, txcsrlOf, rxcsrlOf}
 
-pub in-out : In ≡ Out → ⊥
-in-out p = let z : _≡_ {A = ℕ} 0 1 = cc in omega arith
+-- "Bits follow the public MUSB layout .. from bit 0"
+weighs : (b : Bool) (n : ℕ) → cond b n 0 ≡ n * cond b 1 0
+weighs true n = omega arith
+weighs false n = omega arith
+
+pub csr0l-places : (w : Csr0l)
+    → csr0lNumber w
+    ≡ fromBits (w .«rx_pkt_rdy» ∷ w .«tx_pkt_rdy» ∷ w .«sent_stall» ∷ w .«data_end»
+    ∷ w .«setup_end» ∷ w .«send_stall» ∷ w .«serviced_rx_pkt_rdy» ∷ w .«serviced_setup_end» ∷ [])
+unfolding csr0lNumber fromBits
+csr0l-places w =
+    omega (
+      arith,
+      weighs (w .«tx_pkt_rdy») 2,
+      weighs (w .«sent_stall») 4,
+      weighs (w .«data_end») 8,
+      weighs (w .«setup_end») 16,
+      weighs (w .«send_stall») 32,
+      weighs (w .«serviced_rx_pkt_rdy») 64,
+      weighs (w .«serviced_setup_end») 128,
+    )
+
+pub txcsrl-places : (w : Txcsrl)
+    → txcsrlNumber w
+    ≡ fromBits (w .«tx_pkt_rdy» ∷ w .«fifo_not_empty» ∷ w .«under_run» ∷ w .«flush_fifo»
+    ∷ w .«send_stall» ∷ w .«sent_stall» ∷ w .«clr_data_tog» ∷ [])
+unfolding txcsrlNumber fromBits
+txcsrl-places w =
+    omega (
+      arith,
+      weighs (w .«fifo_not_empty») 2,
+      weighs (w .«under_run») 4,
+      weighs (w .«flush_fifo») 8,
+      weighs (w .«send_stall») 16,
+      weighs (w .«sent_stall») 32,
+      weighs (w .«clr_data_tog») 64,
+    )
+
+pub rxcsrl-places : (w : Rxcsrl)
+    → rxcsrlNumber w
+    ≡ fromBits (w .«rx_pkt_rdy» ∷ w .«fifo_full» ∷ w .«over_run» ∷ w .«data_error»
+    ∷ w .«flush_fifo» ∷ w .«send_stall» ∷ w .«sent_stall» ∷ w .«clr_data_tog» ∷ [])
+unfolding rxcsrlNumber fromBits
+rxcsrl-places w =
+    omega (
+      arith,
+      weighs (w .«fifo_full») 2,
+      weighs (w .«over_run») 4,
+      weighs (w .«data_error») 8,
+      weighs (w .«flush_fifo») 16,
+      weighs (w .«send_stall») 32,
+      weighs (w .«sent_stall») 64,
+      weighs (w .«clr_data_tog») 128,
+    )
 
 -- "SendStall takes the written bit."
 pub tx-stall : (w : Txcsrl) (s : Side) → txStored w s .stall ≡ w .«send_stall»
@@ -64,6 +116,11 @@ module _ (w : Txcsrl) (s : Side) where
   unfolding txStored
   flushed f = (rw f, rw f)
 
+  -- and what is no bit of TXCSRL stays
+  pub tx-rest : (txStored w s .iso ≡ s .iso) × (txStored w s .maxp ≡ s .maxp)
+  unfolding txStored
+  tx-rest = (refl, refl)
+
 module _ (w : Rxcsrl) (s : Side) where
   pub rx-sent-cleared : w .«sent_stall» ≡ false → rxStored w s .stalled ≡ false
   unfolding rxStored
@@ -94,9 +151,44 @@ module _ (w : Rxcsrl) (s : Side) where
   unfolding rxStored
   rx-flushed f = (rw (f, and-zero (s .ready)), rw f)
 
+  pub rx-rest : (rxStored w s .iso ≡ s .iso) × (rxStored w s .maxp ≡ s .maxp)
+  unfolding rxStored
+  rx-rest = (refl, refl)
+
+-- the same sentences of CSR0L, on endpoint 0's transmit side
+module _ (w : Csr0l) (s : Side) where
+  pub zero-sent-cleared : w .«sent_stall» ≡ false → zeroTxStored w s .stalled ≡ false
+  unfolding zeroTxStored
+  zero-sent-cleared e = rw e (and-zero (s .stalled))
+
+  pub zero-sent-kept : w .«sent_stall» ≡ true → zeroTxStored w s .stalled ≡ s .stalled
+  unfolding zeroTxStored
+  zero-sent-kept e = rw e (and-one (s .stalled))
+
+  pub zero-ready-set : w .«tx_pkt_rdy» ≡ true → zeroTxStored w s .ready ≡ true
+  unfolding zeroTxStored
+  zero-ready-set e = rw e (or-one (s .ready))
+
+  pub zero-ready-kept : w .«tx_pkt_rdy» ≡ false → zeroTxStored w s .ready ≡ s .ready
+  unfolding zeroTxStored
+  zero-ready-kept e = rw e (or-zero (s .ready))
+
+  -- what is no bit of CSR0L stays, and so does the packet
+  pub zero-rest :
+      (zeroTxStored w s .len ≡ s .len) × (zeroTxStored w s .missed ≡ s .missed)
+      × (zeroTxStored w s .iso ≡ s .iso) × (zeroTxStored w s .maxp ≡ s .maxp)
+  unfolding zeroTxStored
+  zero-rest = (refl, refl, refl, refl)
+
 pub drops : (s : Side) → (dropped true s .ready ≡ false) × (dropped true s .len ≡ 0)
 unfolding dropped
 drops s = (and-zero (s .ready), refl)
+
+pub drop-rest : (b : Bool) (s : Side)
+    → (dropped b s .missed ≡ s .missed) × (dropped b s .stall ≡ s .stall) × (dropped b s .stalled ≡ s .stalled)
+    × (dropped b s .iso ≡ s .iso) × (dropped b s .maxp ≡ s .maxp)
+unfolding dropped
+drop-rest b s = (refl, refl, refl, refl, refl)
 
 -- "FIFONotEmpty reads as TxPktRdy. FIFOFull and DataError read 0." "DataEnd, Serviced, Flush and ClrDataTog read 0."
 pub not-empty : (s : Side) → txcsrlOf s .«fifo_not_empty» ≡ txcsrlOf s .«tx_pkt_rdy»

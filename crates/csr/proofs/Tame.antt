@@ -39,6 +39,10 @@ pub either : {s t : Side} (b : Bool) → Tame s t → Tame s (cond b t s)
 either true t = t
 either false t = same
 
+pub spared : {s t : Side} (b : Bool) → Tame s t → Tame s (cond b s t)
+spared true t = same
+spared false t = t
+
 pub one-way : {s : Side} (c d : Direction) (f : Side → Side) → Tame s (f s) → Tame s (towards c d f s)
 one-way Out Out f t = t
 one-way Out In f t = same

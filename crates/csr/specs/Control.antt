@@ -1,8 +1,9 @@
 -- The control registers: their bits, what is read of one side, what a store does to it, and the number that the store list has.
 -- Bits follow the public MUSB layout, as document 01 gives it under 'Register model'.
 -- Assumes nothing.
-use Prim.Native.Nat.{ℕ, _+_}
+use Prim.Native.Nat.{ℕ, _+_, _*_}
 use mathlib.Core.Bool.{Bool, true, false, not, _&&_, _||_, cond}
+use mathlib.Core.List.{List, [], _∷_}
 use Rattle.csr.specs.declared.Side.{Side}
 use Rattle.csr.specs.declared.Csr0l.{Csr0l}
 use Rattle.csr.specs.declared.Txcsrl.{Txcsrl}
@@ -35,6 +36,11 @@ unfoldable pub rxcsrlNumber : Rxcsrl → ℕ
 rxcsrlNumber w =
     cond (w .«rx_pkt_rdy») 1 0 + cond (w .«fifo_full») 2 0 + cond (w .«over_run») 4 0 + cond (w .«data_error») 8 0
     + cond (w .«flush_fifo») 16 0 + cond (w .«send_stall») 32 0 + cond (w .«sent_stall») 64 0 + cond (w .«clr_data_tog») 128 0
+
+-- a number by its bits, from bit 0: proofs/AsWritten.antt says of each of the three that it is its bits in document 01's order
+unfoldable pub fromBits : List Bool → ℕ
+fromBits [] = 0
+fromBits (b ∷ bs) = cond b 1 0 + 2 * fromBits bs
 
 unfoldable pub txcsrlOf : Side → Txcsrl
 txcsrlOf s = record {
@@ -138,11 +144,11 @@ rxStored w s = record {
 -- a store to CSR0L, on endpoint 0's transmit side: TxPktRdy, SendStall and SentStall by the same rules. CSR0L is endpoint 0's, whatever is
 -- selected; the source selects 0 first.
 unfoldable pub zeroTxStored : Csr0l → Side → Side
-zeroTxStored w s = record {
-  ready = s .ready || w .«tx_pkt_rdy»;
+zeroTxStored v s = record {
+  ready = s .ready || v .«tx_pkt_rdy»;
   missed = s .missed;
-  stall = w .«send_stall»;
-  stalled = s .stalled && w .«sent_stall»;
+  stall = v .«send_stall»;
+  stalled = s .stalled && v .«sent_stall»;
   iso = s .iso;
   maxp = s .maxp;
   len = s .len;

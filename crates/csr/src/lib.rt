@@ -204,13 +204,13 @@ pub fn rx_stored(w: Rxcsrl, s: Side) -> Side
     o
 }
 
-pub fn zero_tx_stored(w: Csr0l, s: Side) -> Side
-    ensures { λ o. ⌜ o ≡ zeroTxStored w s ⌝ }
+pub fn zero_tx_stored(v: Csr0l, s: Side) -> Side
+    ensures { λ o. ⌜ o ≡ zeroTxStored v s ⌝ }
 {
     let mut o = s;
-    o.ready = s.ready | w.tx_pkt_rdy;
-    o.stall = w.send_stall;
-    o.stalled = s.stalled & w.sent_stall;
+    o.ready = s.ready | v.tx_pkt_rdy;
+    o.stall = v.send_stall;
+    o.stalled = s.stalled & v.sent_stall;
     o
 }
 

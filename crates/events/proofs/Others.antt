@@ -1,13 +1,15 @@
 -- The registers that no side holds, after every event, and the interrupt registers, each cleared by its own read. Assumes nothing.
-use Prim.Native.Nat.{ℕ}
-use mathlib.Core.Path.{_≡_, ap, _∙_}
+use Prim.Native.Nat.{ℕ, _<_}
+use mathlib.Core.Path.{_≡_, refl, ap, _∙_}
 use mathlib.Core.Bool.{Bool, true, false, cond}
 use native.Mathlib.Omega.{arith}
 use lib.Dec.{eqb}
+use lib.ListN.{set, length-set}
 use lib.Seq.{getD-set-same, getD-set-other}
 use Rattle.laws.specs.Words.{raised}
 use Rattle.board.specs.declared.Direction.{Direction}
 use Rattle.board.specs.declared.Direction.the-variants.{Out, In}
+use Rattle.csr.specs.declared.Side.{Side}
 use Rattle.regs.specs.Registers as file
 use Rattle.regs.specs.Registers.{File, Whole, sideAt, withSide, intrusb, intrOf, withIntrusb, withIntr, withSetupend}
 use Rattle.regs.specs.Sound.{Clean}
@@ -17,8 +19,8 @@ use Rattle.regs.proofs.Soundness.{clean-side, clean-set, clean-setupend}
 use Rattle.events.specs.Events.{busBit, interrupting, received, unstalled, waitingAt, arrived, collected, busRaised, busReset, busSuspend, busResume, setupEnded, missing, lapsed, intrusbCleared, intrCleared}
 use Rattle.events.specs.declared.BusEvent.{BusEvent}
 use Rattle.events.specs.declared.BusEvent.the-variants.{Suspend, Resume, Reset}
-use Rattle.events.specs.Promise.{Event, arrival, collection, reset, suspend, resume, setupend, miss, happens, ends, Others}
-use Rattle.events.proofs.Promises.{number, arrival-keeps, collection-keeps, interrupt-keeps}
+use Rattle.events.specs.Promise.{Event, arrival, collection, reset, suspend, resume, setupend, miss, happens, leaves, ends, Others, Clears, at}
+use Rattle.events.proofs.Promises.{sides, number, arrival-keeps, collection-keeps, interrupt-keeps}
 
 one : (x y : ℕ) → x ≡ y → eqb x 1 ≡ eqb y 1
 one x y p = ap (λ (n : ℕ). eqb n 1) p
@@ -57,6 +59,44 @@ pub rx-clears : (r : File) → Whole r
     → (intrOf (intrCleared r Out) Out ≡ 0) × (intrusb (intrCleared r Out) ≡ intrusb r) × (intrOf (intrCleared r Out) In ≡ intrOf r In)
 unfolding intrCleared withIntr intrusb intrOf
 rx-clears r six = (getD-set-same r 8 0 0 (omega arith), getD-set-other r 8 6 0 0 (λ e. omega arith), getD-set-other r 8 7 0 0 (λ e. omega arith))
+
+-- and nothing else changes
+set-clears : (r : File) (i : ℕ) → Whole r → i < 46 → Clears i r (set r i 0)
+set-clears r i six h = record {
+  clear = getD-set-same r i 0 0 (omega arith);
+  others = λ j n. getD-set-other r i j 0 0 n;
+  whole = length-set r i 0;
+}
+
+pub usb-alone : (r : File) → Whole r → Clears 6 r (intrusbCleared r)
+unfolding intrusbCleared withIntrusb
+usb-alone r six = set-clears r 6 six (omega arith)
+
+pub tx-alone : (r : File) → Whole r → Clears 7 r (intrCleared r In)
+unfolding intrCleared withIntr
+tx-alone r six = set-clears r 7 six (omega arith)
+
+pub rx-alone : (r : File) → Whole r → Clears 8 r (intrCleared r Out)
+unfolding intrCleared withIntr
+rx-alone r six = set-clears r 8 six (omega arith)
+
+-- no event clears RxPktRdy, and none SetupEnd (`ends`): that is left to the driver's stores
+either : (b : Bool) (x y : Side) → (y .ready ≡ true → x .ready ≡ true) → y .ready ≡ true → cond b x y .ready ≡ true
+either true x y f p = f p
+either false x y f p = p
+
+received-stays : (o : Event) (e : ℕ) (s : Side) → s .ready ≡ true → leaves o e Out s .ready ≡ true
+received-stays (arrival f n) e s p = either (eqb e f) _ s (λ _. refl) p
+received-stays (collection f) e s p = either (eqb e f) s s (λ q. q) p
+received-stays reset e s p = p
+received-stays suspend e s p = p
+received-stays resume e s p = p
+received-stays setupend e s p = p
+received-stays (miss f Out) e s p = either (eqb e f) _ s (λ q. q) p
+received-stays (miss f In) e s p = either (eqb e f) s s (λ q. q) p
+
+pub still-waits : (o : Event) (r : File) → Whole r → at o < 6 → (e : ℕ) → sideAt r e Out .ready ≡ true → sideAt (happens o r) e Out .ready ≡ true
+still-waits o r six h e p = ap (λ (s : Side). s .ready) (sides o r e Out six h) ∙ received-stays o e (sideAt r e Out) p
 
 -- no event puts a number into the file that no register can hold
 interrupt-clean : (r : File) (c : Direction) (i : ℕ) → Clean r → Clean (interrupting r c i)

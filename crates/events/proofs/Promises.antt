@@ -14,6 +14,7 @@ use Rattle.board.specs.declared.Direction.the-variants.{Out, In}
 use Rattle.regs.specs.Registers.{File, Whole, sideAt, withSide, index, faddr, intrusb, withIntrusb, intrOf, withIntr, withSetupend}
 use Rattle.csr.specs.Registers.{towards}
 use Rattle.csr.specs.Control.{dropped}
+use Rattle.csr.proofs.Sides.{out-in}
 use Rattle.regs.proofs.Sides.{side-seen, side-same, side-other, side-flip, set-keeps, keeps, keeps-length, keeps-intr}
 use Rattle.events.specs.declared.BusEvent.{BusEvent}
 use Rattle.events.specs.declared.BusEvent.the-variants.{Suspend, Resume, Reset}
@@ -55,9 +56,6 @@ wait-seen : (r : File) (f n e : ℕ) (d : Direction) → Whole r → f < 6
     → sideAt (waitingAt r f n) e d ≡ cond (eqb e f) (towards Out d (received n) (sideAt r e d)) (sideAt r e d)
 unfolding waitingAt
 wait-seen r f n e d six h = side-seen r f Out (received n) e d six h
-
-out-in : Out ≡ In → ⊥
-out-in p = let z : _≡_ {A = ℕ} 0 1 = cc in omega arith
 
 wait-keeps : (r : File) (f n q : ℕ) → q < 10 → getD (waitingAt r f n) q 0 ≡ getD r q 0
 unfolding waitingAt

@@ -13,8 +13,7 @@ use Rattle.regs.specs.Registers as file
 use Rattle.regs.specs.Registers.{File}
 use Rattle.csr.specs.Registers.{towards}
 use Rattle.csr.specs.Control.{dropped}
-use Rattle.events.specs.declared.BusEvent.the-variants.{Suspend, Resume, Reset}
-use Rattle.events.specs.Events.{arrived, collected, busBit, busReset, busSuspend, busResume, setupEnded, missing, received, unstalled, lapsed}
+use Rattle.events.specs.Events.{arrived, collected, busReset, busSuspend, busResume, setupEnded, missing, received, unstalled, lapsed}
 
 pub data Event : Type 0 where
   arrival : ℕ → ℕ → Event
@@ -46,13 +45,13 @@ leaves setupend e d s = s
 leaves (miss f c) e d s = cond (eqb e f) (towards c d lapsed s) s
 
 -- the interrupts that an event raises: what it leaves of the bus interrupt register, that was p, and of the interrupt register of direction d.
--- "Enable registers hold back no interrupt": they are not asked.
+-- Of the bus suspend is bit 0, resume bit 1, reset bit 2. "Enable registers hold back no interrupt": they are not asked.
 abbrev pub raisesBus : Event → ℕ → ℕ
 raisesBus (arrival f n) p = p
 raisesBus (collection f) p = p
-raisesBus reset p = raised p (busBit Reset)
-raisesBus suspend p = raised p (busBit Suspend)
-raisesBus resume p = raised p (busBit Resume)
+raisesBus reset p = raised p 2
+raisesBus suspend p = raised p 0
+raisesBus resume p = raised p 1
 raisesBus setupend p = p
 raisesBus (miss f c) p = p
 
@@ -88,6 +87,13 @@ ends (miss e d) b = b
 pub record Others (o : Event) (r q : File) : Type 0 where
   pub ended : file.setupend q ≡ ends o (file.setupend r)
   pub number : (i : ℕ) → 2 ≤ i → i ≤ 5 → getD q i 0 ≡ getD r i 0
+
+-- a read of an interrupt register, which is number i of the file (6 the bus's, 7 of transmit, 8 of receive bits): that number is 0 after it,
+-- and nothing else changes
+pub record Clears (i : ℕ) (r q : File) : Type 0 where
+  pub clear : getD q i 0 ≡ 0
+  pub others : (j : ℕ) → (j ≡ i → ⊥) → getD q j 0 ≡ getD r j 0
+  pub whole : length q ≡ length r
 
 -- the endpoint of an event is one of the record's
 abbrev pub at : Event → ℕ

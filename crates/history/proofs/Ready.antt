@@ -85,14 +85,15 @@ module _ (r : File) (none : (e : ℕ) → sideAt r e Out .ready ≡ false → si
   unfolding underRunCleared
   under h w = go (txcsrlRead (h .regs) .«under_run»)
     where
-      either : (s : Side) (b : Bool) → SamePacket s (cond b s s)
-      either s true = same s
-      either s false = same s
+      either : (s : Side) (a b : Bool) → SamePacket s (cond a s (cond b s s))
+      either s true b = same s
+      either s false true = same s
+      either s false false = same s
 
       go : (b : Bool) → Waits (cond b (modifyTxcsrl NoUnderRun h) h)
       go true =
           rw (modify-txcsrl NoUnderRun h)
-          (keeps (txcsrl (txcsrlSet NoUnderRun (txcsrlRead (h .regs)))) h w (w .low) (λ e. either (sideAt (h .regs) e Out) (eqb e (file.index (h .regs)))))
+          (keeps (txcsrl (txcsrlSet NoUnderRun (txcsrlRead (h .regs)))) h w (w .low) (λ e. either (sideAt (h .regs) e Out) (eqb (file.index (h .regs)) 0) (eqb e (file.index (h .regs)))))
       go false = w
 
   -- a repaired overrun keeps the packet, for one that waits is written as it was read
@@ -106,15 +107,19 @@ module _ (r : File) (none : (e : ℕ) → sideAt r e Out .ready ≡ false → si
       repairs : (s t : Side) → SideOk (s .len) s → t ≡ s → SamePacket s (rxStored (rxcsrlSet NoOverRun (rxcsrlOf t)) s)
       repairs s t k p = rw p (let q = rx-repaired (s .len) s k in record { ready = ap (λ (x : Side). x .ready) q; len = ap (λ (x : Side). x .len) q })
 
+      spared : (a : Bool) (s t : Side) → SamePacket s t → SamePacket s (cond a s t)
+      spared true s t p = same s
+      spared false s t p = p
+
       side : (e : ℕ) → Dec (e ≡ file.index (h .regs))
-          → SamePacket (sideAt (h .regs) e Out) (leaves (rxcsrl (rxcsrlSet NoOverRun (rxcsrlRead (h .regs)))) (file.index (h .regs)) e Out (sideAt (h .regs) e Out))
+          → SamePacket (sideAt (h .regs) e Out) (cond (eqb e (file.index (h .regs))) (rxStored (rxcsrlSet NoOverRun (rxcsrlRead (h .regs))) (sideAt (h .regs) e Out)) (sideAt (h .regs) e Out))
       side e (yes p) = rw (eq-eqb e (file.index (h .regs)) p) (repairs (sideAt (h .regs) e Out) (chosen (h .regs) Out) (ok e) (ap (λ (i : ℕ). sideAt (h .regs) i Out) (sym p)))
       side e (no n) = rw (ne-eqb e (file.index (h .regs)) n) (same (sideAt (h .regs) e Out))
 
       go : (b : Bool) → Waits (cond b (modifyRxcsrl NoOverRun h) h)
       go true =
           rw (modify-rxcsrl NoOverRun h)
-          (keeps (rxcsrl (rxcsrlSet NoOverRun (rxcsrlRead (h .regs)))) h w (w .low) (λ e. side e (ℕ-discrete e (file.index (h .regs)))))
+          (keeps (rxcsrl (rxcsrlSet NoOverRun (rxcsrlRead (h .regs)))) h w (w .low) (λ e. spared (eqb (file.index (h .regs)) 0) _ _ (side e (ℕ-discrete e (file.index (h .regs))))))
       go false = w
 
   all-repaired : (m i : ℕ) (h : Log) → i + m ≤ 6 → Waits h → Waits (foldl repaired h (numbers i m))

@@ -17,7 +17,7 @@ use Rattle.csr.specs.Control.{zeroTxStored, dropped, rxcsrlOf}
 use Rattle.regs.specs.Control.{csr0lStored, csr0hFlushed, csr0lRead, rxcsrlRead, count0, rxcount}
 use Rattle.regs.specs.Sound.{Sound}
 use Rattle.regs.proofs.Sides.{side-same, side-other, side-flip, set-keeps, keeps, keeps-length}
-use Rattle.csr.proofs.AsWritten.{in-out}
+use Rattle.csr.proofs.Sides.{in-out}
 
 setupend-keeps : (q : File) (b : Bool) (e : ℕ) (d : Direction) → sideAt (withSetupend q b) e d ≡ sideAt q e d
 unfolding withSetupend
@@ -106,10 +106,17 @@ unfolding csr0hFlushed
 flush-out r six =
     side-same (withSide r 0 In (dropped true (sideAt r 0 In))) 0 Out _ (keeps-length r 0 In _ ∙ six) (omega arith)
 
+-- "DataEnd, Serviced, .. read 0." The other five bits of CSR0L read as they stand.
 pub zero-read-zero : (r : File)
     → (csr0lRead r .«data_end» ≡ false) × (csr0lRead r .«serviced_rx_pkt_rdy» ≡ false) × (csr0lRead r .«serviced_setup_end» ≡ false)
 unfolding csr0lRead
 zero-read-zero r = (refl, refl, refl)
+
+pub zero-reads : (r : File)
+    → (csr0lRead r .«rx_pkt_rdy» ≡ sideAt r 0 Out .ready) × (csr0lRead r .«tx_pkt_rdy» ≡ sideAt r 0 In .ready) × (csr0lRead r .«sent_stall» ≡ sideAt r 0 In .stalled)
+    × (csr0lRead r .«setup_end» ≡ setupend r) × (csr0lRead r .«send_stall» ≡ sideAt r 0 In .stall)
+unfolding csr0lRead
+zero-reads r = (refl, refl, refl, refl, refl)
 
 -- "Counts are the waiting packet's length, 0 if none.", of a file that passes reply 16's test
 pub count0-none : (sizes : List ℕ) (n : ℕ) (r : File) → Sound sizes n r → csr0lRead r .«rx_pkt_rdy» ≡ false → count0 r ≡ 0

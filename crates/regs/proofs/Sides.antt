@@ -19,8 +19,8 @@ use Rattle.board.specs.declared.Direction.{Direction}
 use Rattle.board.specs.declared.Direction.the-variants.{Out, In}
 use Rattle.csr.specs.declared.Side.{Side}
 use Rattle.csr.specs.Registers.{noSide, towards}
-use Rattle.csr.proofs.Sides.{same-direction}
-use Rattle.regs.specs.Registers.{File, Whole, freshFile, freshRegs, sideWord, sideOf, sideIn, withSideIn, sideAt, withSide, index, faddr, intrusb, intrOf, setupend}
+use Rattle.csr.proofs.Sides.{in-out, out-in, same-direction}
+use Rattle.regs.specs.Registers.{File, Whole, Fresh, freshFile, freshRegs, sideWord, sideOf, sideIn, withSideIn, sideAt, withSide, index, faddr, power, intrusbe, enabledOf, intrusb, intrOf, setupend}
 use Rattle.regs.proofs.Words.{read-back}
 
 -- places: below twelve, and no two alike
@@ -163,18 +163,6 @@ module _ (w : File) (e : ℕ) (d : Direction) (s : Side) where
       go (yes h) = ap length (unchanged w e d s h)
       go (no h) = ap length (put-there w e d s (lt-of-not-le h)) ∙ length-in w (place e d) s
 
-  pub keeps-index : index (withSide w e d s) ≡ index w
-  unfolding index
-  keeps-index = keeps 0 (omega arith)
-
-  pub keeps-faddr : faddr (withSide w e d s) ≡ faddr w
-  unfolding faddr
-  keeps-faddr = keeps 1 (omega arith)
-
-  pub keeps-intrusb : intrusb (withSide w e d s) ≡ intrusb w
-  unfolding intrusb
-  keeps-intrusb = keeps 6 (omega arith)
-
   pub keeps-intr : (c : Direction) → intrOf (withSide w e d s) c ≡ intrOf w c
   unfolding intrOf
   keeps-intr Out = keeps 8 (omega arith)
@@ -198,8 +186,8 @@ side-seen w i c f e d k h = go (ℕ-discrete e i)
   where
     here : (c d : Direction) → sideAt (withSide w i c (f (sideAt w i c))) i d ≡ towards c d f (sideAt w i d)
     here Out Out = side-same w i Out _ k h
-    here Out In = side-flip w i Out _ In (λ (p : In ≡ Out). let z : _≡_ {A = ℕ} 0 1 = cc in omega arith)
-    here In Out = side-flip w i In _ Out (λ (p : Out ≡ In). let z : _≡_ {A = ℕ} 0 1 = cc in omega arith)
+    here Out In = side-flip w i Out _ In in-out
+    here In Out = side-flip w i In _ Out out-in
     here In In = side-same w i In _ k h
 
     go : Dec (e ≡ i) → sideAt (withSide w i c (f (sideAt w i c))) e d ≡ cond (eqb e i) (towards c d f (sideAt w e d)) (sideAt w e d)
@@ -232,3 +220,27 @@ fresh-whole = refl
 pub fresh-words : (b : Board) → (freshRegs b .words ≡ freshFile) × (freshRegs b .board ≡ b)
 unfolding freshRegs
 fresh-words b = (refl, refl)
+
+-- so every register of a fresh file is 0, and nothing waits
+pub fresh-file : Fresh freshFile
+unfolding index faddr power intrusbe enabledOf intrusb intrOf setupend
+fresh-file = record {
+  whole = fresh-whole;
+  selection = fresh-zero 0;
+  address = fresh-zero 1;
+  powered = fresh-zero 2;
+  buses = fresh-zero 3;
+  enables = enables;
+  bus = fresh-zero 6;
+  pending = pending;
+  ended = ap (λ (n : ℕ). eqb n 1) (fresh-zero 9);
+  side = fresh-side;
+}
+  where
+    enables : (d : Direction) → enabledOf d freshFile ≡ 0
+    enables Out = fresh-zero 5
+    enables In = fresh-zero 4
+
+    pending : (d : Direction) → intrOf freshFile d ≡ 0
+    pending Out = fresh-zero 8
+    pending In = fresh-zero 7

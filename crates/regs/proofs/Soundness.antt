@@ -26,7 +26,7 @@ use Rattle.csr.proofs.Soundness.{side-ok, side-test, none-ok}
 use Rattle.regs.specs.Registers.{File, Whole, freshFile, index, faddr, sideIn, sideAt, withSide, withSideIn, sideWord, withSetupend}
 use Rattle.regs.specs.Sound.{wordsBelow, sidesBelow, regsSound, Clean, Sound}
 use Rattle.regs.proofs.Words.{word-lt}
-use Rattle.regs.proofs.Sides.{place-lt, there, past, put-there, unchanged, side-either, word-either, keeps, keeps-length, keeps-index, keeps-faddr, fresh-zero}
+use Rattle.regs.proofs.Sides.{place-lt, there, past, put-there, unchanged, word-either, keeps, keeps-length, fresh-zero}
 
 -- a turn of either loop
 pub words-next : (w : File) (i : ℕ) → wordsBelow w (i + 1) ≡ (wordsBelow w i also ltb (getD w (10 + i) 0) 32)
@@ -178,21 +178,6 @@ unfolding csr0hFlushed
 clean-flush w six k =
     let tx = dropped true (sideAt w 0 In) in
     clean-side (withSide w 0 In tx) 0 Out (dropped true (sideAt w 0 Out)) (keeps-length w 0 In tx ∙ six) (clean-side w 0 In tx six k)
-
--- a side that is changed to a sound one leaves the file sound
-pub sound-side : (sizes : List ℕ) (n : ℕ) (w : File) (e : ℕ) (d : Direction) (s : Side) → Whole w → Sound sizes n w → SideOk (getD sizes (place e d) 0) s
-    → Sound sizes n (withSide w e d s)
-sound-side sizes n w e d s six k ok = record {
-  selected = rw (keeps-index w e d s) (k .selected);
-  address = rw (keeps-faddr w e d s) (k .address);
-  clean = clean-side w e d s six (k .clean);
-  side = λ (f : ℕ) (c : Direction). go f c (side-either w e d s f c six);
-}
-  where
-    go : (f : ℕ) (c : Direction) → ((sideAt (withSide w e d s) f c ≡ s) × (f ≡ e) × (c ≡ d)) ⊎ (sideAt (withSide w e d s) f c ≡ sideAt w f c)
-        → SideOk (getD sizes (place f c) 0) (sideAt (withSide w e d s) f c)
-    go f c (inl (p, q, t)) = rw (p, q, t) ok
-    go f c (inr p) = rw p (k .side f c)
 
 -- a fresh file is clean
 pub fresh-clean : Clean freshFile

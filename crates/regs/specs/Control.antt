@@ -2,9 +2,11 @@
 -- read, and the counts.
 -- Assumes nothing.
 use Prim.Native.Nat.{ℕ}
-use mathlib.Core.Bool.{true, false, not, _&&_}
+use mathlib.Core.Bool.{Bool, true, false, not, _&&_}
 use Rattle.board.specs.declared.Direction.the-variants.{Out, In}
 use Rattle.csr.specs.declared.Csr0l.{Csr0l}
+use Rattle.csr.specs.declared.Csr0lSet.{Csr0lSet}
+use Rattle.csr.specs.declared.Csr0lSet.the-variants as csr0l
 use Rattle.csr.specs.declared.Txcsrl.{Txcsrl}
 use Rattle.csr.specs.declared.Rxcsrl.{Rxcsrl}
 use Rattle.regs.specs.Registers.{File, sideAt, withSide, setupend, withSetupend, chosen}
@@ -44,6 +46,21 @@ csr0lStored w r =
     withSetupend
     (withSide (withSide r 0 In (zeroTxStored w (sideAt r 0 In))) 0 Out (dropped (w .«serviced_rx_pkt_rdy») (sideAt r 0 Out)))
     (setupend r && not (w .«serviced_setup_end»))
+
+-- which of the source's settings of CSR0L answer the packet received, and which the setup end: proofs/Modified.antt has what a `modify` does
+abbrev pub answersPacket : Csr0lSet → Bool
+answersPacket csr0l.TxPktRdy = false
+answersPacket csr0l.DataEnd = false
+answersPacket csr0l.ServicedRxPktRdy = true
+answersPacket csr0l.ServicedSetupEnd = false
+answersPacket csr0l.ServicedBoth = true
+
+abbrev pub answersEnd : Csr0lSet → Bool
+answersEnd csr0l.TxPktRdy = false
+answersEnd csr0l.DataEnd = false
+answersEnd csr0l.ServicedRxPktRdy = false
+answersEnd csr0l.ServicedSetupEnd = true
+answersEnd csr0l.ServicedBoth = true
 
 -- "CSR0H's flush does both sides"
 unfoldable pub csr0hFlushed : File → File

@@ -2,7 +2,7 @@
 -- Assumes nothing.
 use Prim.Native.Nat.{ℕ, _+_}
 use mathlib.Core.Path.{_≡_}
-use mathlib.Core.Bool.{Bool, cond}
+use mathlib.Core.Bool.{Bool, false, cond}
 use mathlib.Core.List.{List}
 use lib.Dec.{eqb, ltb}
 use lib.ListN.{length, getD, set, replicate}
@@ -117,3 +117,16 @@ chosen w d = sideAt w (index w) d
 
 abbrev pub withChosen : File → Direction → Side → File
 withChosen w d s = withSide w (index w) d s
+
+-- "registers 0, nothing waiting", register by register: proofs/Sides.antt shows it of a fresh file
+pub record Fresh (w : File) : Type 0 where
+  pub whole : Whole w
+  pub selection : index w ≡ 0
+  pub address : faddr w ≡ 0
+  pub powered : power w ≡ 0
+  pub buses : intrusbe w ≡ 0
+  pub enables : (d : Direction) → enabledOf d w ≡ 0
+  pub bus : intrusb w ≡ 0
+  pub pending : (d : Direction) → intrOf w d ≡ 0
+  pub ended : setupend w ≡ false
+  pub side : (e : ℕ) (d : Direction) → sideAt w e d ≡ noSide

@@ -120,12 +120,13 @@ pub fn read_csr0l(w: &[u16; 46]) -> Csr0l
 {
     let tx = side_at(w, 0, Direction::In);
     let rx = side_at(w, 0, Direction::Out);
+    let ended = w[SETUPEND] == 1;
     Csr0l {
         rx_pkt_rdy: rx.ready,
         tx_pkt_rdy: tx.ready,
         sent_stall: tx.stalled,
         data_end: false,
-        setup_end: w[SETUPEND] == 1,
+        setup_end: ended,
         send_stall: tx.stall,
         serviced_rx_pkt_rdy: false,
         serviced_setup_end: false,

@@ -50,6 +50,14 @@ kept c f r e d same = go c d same (ℕ-discrete e (file.index r))
     go In Out s (yes p) = rw (eq-eqb e (file.index r) p)
     go In In s (yes p) = rw (eq-eqb e (file.index r) p) (rw p s)
 
+own-kept : (c : Direction) (f : Side → Side) (r : File) (e : ℕ) (d : Direction) → (f (chosen r c) .stall ≡ chosen r c .stall)
+    → cond (eqb (file.index r) 0) (sideAt r e d) (cond (eqb e (file.index r)) (towards c d f (sideAt r e d)) (sideAt r e d)) .stall ≡ sideAt r e d .stall
+own-kept c f r e d same = go (eqb (file.index r) 0)
+  where
+    go : (b : Bool) → cond b (sideAt r e d) (cond (eqb e (file.index r)) (towards c d f (sideAt r e d)) (sideAt r e d)) .stall ≡ sideAt r e d .stall
+    go true = refl
+    go false = kept c f r e d same
+
 leaves-stall : (o : Store) (r : File) (e : ℕ) (d : Direction) → (e ≡ 0 → ⊥) → SameStall o r
     → leaves o (file.index r) e d (sideAt r e d) .stall ≡ sideAt r e d .stall
 leaves-stall (faddr a) r e d n s = refl
@@ -58,10 +66,10 @@ leaves-stall (index f) r e d n s = refl
 leaves-stall (csr0l w) r e Out n s = rw (ne-eqb e 0 n)
 leaves-stall (csr0l w) r e In n s = rw (ne-eqb e 0 n)
 leaves-stall csr0h r e d n s = rw (ne-eqb e 0 n)
-leaves-stall (txcsrl w) r e d n s = kept In (txStored w) r e d (tx-stall w _ ∙ s)
-leaves-stall (rxcsrl w) r e d n s = kept Out (rxStored w) r e d (rx-stall w _ ∙ s)
-leaves-stall (iso c) r e d n s = kept c withIso r e d refl
-leaves-stall (maxp c m) r e d n s = kept c (withMaxp m) r e d refl
+leaves-stall (txcsrl w) r e d n s = own-kept In (txStored w) r e d (tx-stall w _ ∙ s)
+leaves-stall (rxcsrl w) r e d n s = own-kept Out (rxStored w) r e d (rx-stall w _ ∙ s)
+leaves-stall (iso c) r e d n s = own-kept c withIso r e d refl
+leaves-stall (maxp c m) r e d n s = own-kept c (withMaxp m) r e d refl
 leaves-stall intrusbe r e d n s = refl
 leaves-stall (intre c v) r e d n s = refl
 leaves-stall (packet m) r e d n s = go (eqb m 0)

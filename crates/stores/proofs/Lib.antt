@@ -1,3 +1,5 @@
+pub mod Own
 pub mod Promises
 pub mod Others
 pub mod Halts
+pub mod AsWritten

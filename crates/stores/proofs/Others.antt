@@ -2,7 +2,7 @@
 -- Assumes nothing.
 use Prim.Native.Nat.{ℕ, _+_, _<_}
 use mathlib.Core.Path.{_≡_, refl, sym, ap}
-use mathlib.Core.Bool.{Bool, true, false, cond}
+use mathlib.Core.Bool.{Bool, true, false, not, cond}
 use native.Mathlib.Omega.{arith}
 use lib.Dec.{eqb}
 use lib.ListN.{set}
@@ -22,6 +22,7 @@ use Rattle.stores.specs.Stores.{Log, noted, writeFaddr, writePower, writ
 use Rattle.store_list.specs.Stores.{FIFO, INDEX, listed}
 use Rattle.stores.specs.Promise.{Store, faddr, power, index, csr0l, csr0h, txcsrl, rxcsrl, iso, maxp, intrusbe, intre, packet, does, ends, isListed, register, value, Noted}
 use Rattle.stores.proofs.Promises.{number}
+use Rattle.stores.proofs.Own.{own-ends, own-clean}
 
 set-ends : (w : File) (q v : ℕ) → q < 9 → file.setupend (set w q v) ≡ file.setupend w
 unfolding file.setupend
@@ -43,10 +44,10 @@ ended power g six = set-ends (g .regs) 2 1 (omega arith)
 ended (index e) g six = set-ends (g .regs) 0 e (omega arith)
 ended (csr0l w) g six = setup-ends w (g .regs) six
 ended csr0h g six = ap (λ (n : ℕ). eqb n 1) (flush-keeps (g .regs) 9 (omega arith))
-ended (txcsrl w) g six = keeps-setupend (g .regs) (file.index (g .regs)) In (txStored w (chosen (g .regs) In))
-ended (rxcsrl w) g six = keeps-setupend (g .regs) (file.index (g .regs)) Out (rxStored w (chosen (g .regs) Out))
-ended (iso d) g six = keeps-setupend (g .regs) (file.index (g .regs)) d (withIso (chosen (g .regs) d))
-ended (maxp d n) g six = keeps-setupend (g .regs) (file.index (g .regs)) d (withMaxp n (chosen (g .regs) d))
+ended (txcsrl w) g six = own-ends (g .regs) (file.index (g .regs)) In (txStored w (chosen (g .regs) In))
+ended (rxcsrl w) g six = own-ends (g .regs) (file.index (g .regs)) Out (rxStored w (chosen (g .regs) Out))
+ended (iso d) g six = own-ends (g .regs) (file.index (g .regs)) d (withIso (chosen (g .regs) d))
+ended (maxp d n) g six = own-ends (g .regs) (file.index (g .regs)) d (withMaxp n (chosen (g .regs) d))
 ended intrusbe g six = set-ends (g .regs) 3 7 (omega arith)
 ended (intre Out v) g six = set-ends (g .regs) 5 v (omega arith)
 ended (intre In v) g six = set-ends (g .regs) 4 v (omega arith)
@@ -54,34 +55,37 @@ ended (packet n) g six = packet-ends n g
 
 -- what is listed
 pub record Listed (o : Store) (g h : Log) : Type 0 where
-  pub list : isListed o ≡ true → h .list ≡ listed (g .list) (g .count) (register o) (file.index (h .regs)) (value o)
-  pub count : isListed o ≡ true → h .count ≡ g .count + 1
+  pub list : h .list ≡ cond (isListed o) (listed (g .list) (g .count) (register o) (file.index (h .regs)) (value o)) (g .list)
+  pub count : h .count ≡ cond (isListed o) (g .count + 1) (g .count)
 
 packet-listed : (n : ℕ) (g : Log) → Listed (packet n) g (writePacket n g)
 unfolding writePacket noted
-packet-listed n g = go (eqb n 0) refl
+packet-listed n g = record { list = lists (eqb n 0); count = counts (eqb n 0) }
   where
-    go : (b : Bool) → eqb n 0 ≡ b
-        → Listed (packet n) g (cond b g (noted FIFO n (withChosen (g .regs) In (withLen n (chosen (g .regs) In))) (g .list) (g .count)))
-    go true p = record {
-      list = λ q. let z : _≡_ {A = ℕ} 0 1 = cc in absurd (omega arith);
-      count = λ q. let z : _≡_ {A = ℕ} 0 1 = cc in absurd (omega arith);
-    }
-    go false p = record { list = λ q. refl; count = λ q. refl }
+    lists : (b : Bool)
+        → cond b g (noted FIFO n (withChosen (g .regs) In (withLen n (chosen (g .regs) In))) (g .list) (g .count)) .list
+        ≡ cond (not b) (listed (g .list) (g .count) FIFO (file.index (cond b g (noted FIFO n (withChosen (g .regs) In (withLen n (chosen (g .regs) In))) (g .list) (g .count)) .regs)) n) (g .list)
+    lists true = refl
+    lists false = refl
+
+    counts : (b : Bool)
+        → cond b g (noted FIFO n (withChosen (g .regs) In (withLen n (chosen (g .regs) In))) (g .list) (g .count)) .count ≡ cond (not b) (g .count + 1) (g .count)
+    counts true = refl
+    counts false = refl
 
 is-listed : (o : Store) (g : Log) → Whole (g .regs) → Listed o g (does o g)
 unfolding noted writeFaddr writePower writeIndex writeCsr0l flushCsr0h writeTxcsrl writeRxcsrl writeIso writeMaxp writeIntrusbe writeIntre
-is-listed (faddr a) g six = record { list = λ _. refl; count = λ _. refl }
-is-listed power g six = record { list = λ _. refl; count = λ _. refl }
-is-listed (index e) g six = record { list = λ _. ap (λ (i : ℕ). listed (g .list) (g .count) INDEX i e) (sym (selected (g .regs) e six)); count = λ _. refl }
-is-listed (csr0l w) g six = record { list = λ _. refl; count = λ _. refl }
-is-listed csr0h g six = record { list = λ _. refl; count = λ _. refl }
-is-listed (txcsrl w) g six = record { list = λ _. refl; count = λ _. refl }
-is-listed (rxcsrl w) g six = record { list = λ _. refl; count = λ _. refl }
-is-listed (iso d) g six = record { list = λ _. refl; count = λ _. refl }
-is-listed (maxp d n) g six = record { list = λ _. refl; count = λ _. refl }
-is-listed intrusbe g six = record { list = λ _. refl; count = λ _. refl }
-is-listed (intre d v) g six = record { list = λ _. refl; count = λ _. refl }
+is-listed (faddr a) g six = record { list = refl; count = refl }
+is-listed power g six = record { list = refl; count = refl }
+is-listed (index e) g six = record { list = ap (λ (i : ℕ). listed (g .list) (g .count) INDEX i e) (sym (selected (g .regs) e six)); count = refl }
+is-listed (csr0l w) g six = record { list = refl; count = refl }
+is-listed csr0h g six = record { list = refl; count = refl }
+is-listed (txcsrl w) g six = record { list = refl; count = refl }
+is-listed (rxcsrl w) g six = record { list = refl; count = refl }
+is-listed (iso d) g six = record { list = refl; count = refl }
+is-listed (maxp d n) g six = record { list = refl; count = refl }
+is-listed intrusbe g six = record { list = refl; count = refl }
+is-listed (intre d v) g six = record { list = refl; count = refl }
 is-listed (packet n) g six = packet-listed n g
 
 pub others : (o : Store) (g : Log) → Whole (g .regs) → Noted o g (does o g)
@@ -108,10 +112,10 @@ clean power g six k = clean-set (g .regs) 2 1 (omega arith) k
 clean (index e) g six k = clean-set (g .regs) 0 e (omega arith) k
 clean (csr0l w) g six k = clean-zero w (g .regs) six k
 clean csr0h g six k = clean-flush (g .regs) six k
-clean (txcsrl w) g six k = clean-side (g .regs) (file.index (g .regs)) In (txStored w (chosen (g .regs) In)) six k
-clean (rxcsrl w) g six k = clean-side (g .regs) (file.index (g .regs)) Out (rxStored w (chosen (g .regs) Out)) six k
-clean (iso d) g six k = clean-side (g .regs) (file.index (g .regs)) d (withIso (chosen (g .regs) d)) six k
-clean (maxp d n) g six k = clean-side (g .regs) (file.index (g .regs)) d (withMaxp n (chosen (g .regs) d)) six k
+clean (txcsrl w) g six k = own-clean (g .regs) (file.index (g .regs)) In (txStored w (chosen (g .regs) In)) six k
+clean (rxcsrl w) g six k = own-clean (g .regs) (file.index (g .regs)) Out (rxStored w (chosen (g .regs) Out)) six k
+clean (iso d) g six k = own-clean (g .regs) (file.index (g .regs)) d (withIso (chosen (g .regs) d)) six k
+clean (maxp d n) g six k = own-clean (g .regs) (file.index (g .regs)) d (withMaxp n (chosen (g .regs) d)) six k
 clean intrusbe g six k = clean-set (g .regs) 3 7 (omega arith) k
 clean (intre Out v) g six k = clean-set (g .regs) 5 v (omega arith) k
 clean (intre In v) g six k = clean-set (g .regs) 4 v (omega arith) k

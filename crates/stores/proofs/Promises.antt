@@ -25,12 +25,8 @@ use Rattle.regs.proofs.Sides.{side-seen, set-keeps, keeps, keeps-length}
 use Rattle.regs.proofs.AsWritten.{zero-in, zero-out, zero-other, flush-in, flush-out, flush-other, zero-keeps, zero-length, flush-keeps, flush-length}
 use Rattle.stores.specs.Stores.{Log, log, noted, writeFaddr, writePower, writeIndex, writeCsr0l, flushCsr0h, writeTxcsrl, writeRxcsrl, writeIso, writeMaxp, writeIntrusbe, writeIntre, writePacket, modifyCsr0l, modifyTxcsrl, modifyRxcsrl, modifyIntre}
 use Rattle.store_list.specs.Stores.{FIFO, INDEX, listed}
+use Rattle.stores.proofs.Own.{own-seen, own-keeps, own-length}
 use Rattle.stores.specs.Promise.{Store, faddr, power, index, csr0l, csr0h, txcsrl, rxcsrl, iso, maxp, intrusbe, intre, packet, does, leaves, writes, selects, addresses, Kept}
-
--- a change of the selected endpoint's side of direction c, seen at endpoint e and direction d
-seen : (r : File) (c : Direction) (f : Side → Side) (e : ℕ) (d : Direction) → Whole r → file.index r < 6
-    → sideAt (withChosen r c (f (chosen r c))) e d ≡ cond (eqb e (file.index r)) (towards c d f (sideAt r e d)) (sideAt r e d)
-seen r c f e d six h = side-seen r (file.index r) c f e d six h
 
 -- endpoint 0's register, seen at any endpoint
 zero-seen : (w : Csr0l) (r : File) (e : ℕ) (d : Direction) → Whole r → sideAt (csr0lStored w r) e d ≡ leaves (csr0l w) (file.index r) e d (sideAt r e d)
@@ -60,7 +56,7 @@ packet-seen n g e d six h = go (eqb n 0)
         → sideAt (cond b g (noted FIFO n (withChosen (g .regs) In (withLen n (chosen (g .regs) In))) (g .list) (g .count)) .regs) e d
         ≡ cond b (sideAt (g .regs) e d) (cond (eqb e (file.index (g .regs))) (towards In d (withLen n) (sideAt (g .regs) e d)) (sideAt (g .regs) e d))
     go true = refl
-    go false = seen (g .regs) In (withLen n) e d six h
+    go false = side-seen (g .regs) (file.index (g .regs)) In (withLen n) e d six h
 
 -- every store leaves every side as the account says: other endpoints, other directions, ready bits, waiting lengths, SendStall
 pub sides : (o : Store) (g : Log) (e : ℕ) (d : Direction) → Whole (g .regs) → file.index (g .regs) < 6
@@ -71,10 +67,10 @@ sides power g e d six h = set-keeps (g .regs) 2 1 e d (omega arith)
 sides (index f) g e d six h = set-keeps (g .regs) 0 f e d (omega arith)
 sides (csr0l w) g e d six h = zero-seen w (g .regs) e d six
 sides csr0h g e d six h = flush-seen (g .regs) e d six
-sides (txcsrl w) g e d six h = seen (g .regs) In (txStored w) e d six h
-sides (rxcsrl w) g e d six h = seen (g .regs) Out (rxStored w) e d six h
-sides (iso c) g e d six h = seen (g .regs) c withIso e d six h
-sides (maxp c n) g e d six h = seen (g .regs) c (withMaxp n) e d six h
+sides (txcsrl w) g e d six h = own-seen (g .regs) (file.index (g .regs)) In (txStored w) e d six h
+sides (rxcsrl w) g e d six h = own-seen (g .regs) (file.index (g .regs)) Out (rxStored w) e d six h
+sides (iso c) g e d six h = own-seen (g .regs) (file.index (g .regs)) c withIso e d six h
+sides (maxp c n) g e d six h = own-seen (g .regs) (file.index (g .regs)) c (withMaxp n) e d six h
 sides intrusbe g e d six h = set-keeps (g .regs) 3 7 e d (omega arith)
 sides (intre Out v) g e d six h = set-keeps (g .regs) 5 v e d (omega arith)
 sides (intre In v) g e d six h = set-keeps (g .regs) 4 v e d (omega arith)
@@ -96,10 +92,10 @@ number power g q six h = getD-set (g .regs) 2 q 1 0 (omega arith)
 number (index e) g q six h = getD-set (g .regs) 0 q e 0 (omega arith)
 number (csr0l w) g q six h = zero-keeps w (g .regs) q h
 number csr0h g q six h = flush-keeps (g .regs) q (omega arith)
-number (txcsrl w) g q six h = keeps (g .regs) (file.index (g .regs)) In (txStored w (chosen (g .regs) In)) q (omega arith)
-number (rxcsrl w) g q six h = keeps (g .regs) (file.index (g .regs)) Out (rxStored w (chosen (g .regs) Out)) q (omega arith)
-number (iso d) g q six h = keeps (g .regs) (file.index (g .regs)) d (withIso (chosen (g .regs) d)) q (omega arith)
-number (maxp d n) g q six h = keeps (g .regs) (file.index (g .regs)) d (withMaxp n (chosen (g .regs) d)) q (omega arith)
+number (txcsrl w) g q six h = own-keeps (g .regs) (file.index (g .regs)) In (txStored w (chosen (g .regs) In)) q (omega arith)
+number (rxcsrl w) g q six h = own-keeps (g .regs) (file.index (g .regs)) Out (rxStored w (chosen (g .regs) Out)) q (omega arith)
+number (iso d) g q six h = own-keeps (g .regs) (file.index (g .regs)) d (withIso (chosen (g .regs) d)) q (omega arith)
+number (maxp d n) g q six h = own-keeps (g .regs) (file.index (g .regs)) d (withMaxp n (chosen (g .regs) d)) q (omega arith)
 number intrusbe g q six h = getD-set (g .regs) 3 q 7 0 (omega arith)
 number (intre Out v) g q six h = getD-set (g .regs) 5 q v 0 (omega arith)
 number (intre In v) g q six h = getD-set (g .regs) 4 q v 0 (omega arith)
@@ -121,10 +117,10 @@ whole power g = length-set (g .regs) 2 1
 whole (index e) g = length-set (g .regs) 0 e
 whole (csr0l w) g = zero-length w (g .regs)
 whole csr0h g = flush-length (g .regs)
-whole (txcsrl w) g = keeps-length (g .regs) (file.index (g .regs)) In (txStored w (chosen (g .regs) In))
-whole (rxcsrl w) g = keeps-length (g .regs) (file.index (g .regs)) Out (rxStored w (chosen (g .regs) Out))
-whole (iso d) g = keeps-length (g .regs) (file.index (g .regs)) d (withIso (chosen (g .regs) d))
-whole (maxp d n) g = keeps-length (g .regs) (file.index (g .regs)) d (withMaxp n (chosen (g .regs) d))
+whole (txcsrl w) g = own-length (g .regs) (file.index (g .regs)) In (txStored w (chosen (g .regs) In))
+whole (rxcsrl w) g = own-length (g .regs) (file.index (g .regs)) Out (rxStored w (chosen (g .regs) Out))
+whole (iso d) g = own-length (g .regs) (file.index (g .regs)) d (withIso (chosen (g .regs) d))
+whole (maxp d n) g = own-length (g .regs) (file.index (g .regs)) d (withMaxp n (chosen (g .regs) d))
 whole intrusbe g = length-set (g .regs) 3 7
 whole (intre Out v) g = length-set (g .regs) 5 v
 whole (intre In v) g = length-set (g .regs) 4 v

@@ -2,7 +2,7 @@
 -- Assumes nothing.
 use Prim.Native.Nat.{ℕ, _+_, _<_}
 use mathlib.Core.Path.{_≡_}
-use mathlib.Core.Bool.{Bool, true, not, _&&_, cond}
+use mathlib.Core.Bool.{Bool, true, false, not, _&&_, cond}
 use lib.ListN.{length, getD}
 use lib.Dec.{eqb}
 use Rattle.board.specs.declared.Direction.{Direction}
@@ -48,7 +48,8 @@ does intrusbe g = writeIntrusbe g
 does (intre d v) g = writeIntre d v g
 does (packet n) g = writePacket n g
 
--- what a store leaves of the side of endpoint e and direction d, that was s, while endpoint i is selected
+-- what a store leaves of the side of endpoint e and direction d, that was s, while endpoint i is selected. Endpoint 0 has no TXCSRL, RXCSRL,
+-- TXCSRH, RXCSRH, TXMAXP, RXMAXP.
 abbrev pub leaves : Store → ℕ → ℕ → Direction → Side → Side
 leaves (faddr a) i e d s = s
 leaves power i e d s = s
@@ -56,10 +57,10 @@ leaves (index f) i e d s = s
 leaves (csr0l w) i e Out s = cond (eqb e 0) (dropped (w .«serviced_rx_pkt_rdy») s) s
 leaves (csr0l w) i e In s = cond (eqb e 0) (zeroTxStored w s) s
 leaves csr0h i e d s = cond (eqb e 0) (dropped true s) s
-leaves (txcsrl w) i e d s = cond (eqb e i) (towards In d (txStored w) s) s
-leaves (rxcsrl w) i e d s = cond (eqb e i) (towards Out d (rxStored w) s) s
-leaves (iso c) i e d s = cond (eqb e i) (towards c d withIso s) s
-leaves (maxp c n) i e d s = cond (eqb e i) (towards c d (withMaxp n) s) s
+leaves (txcsrl w) i e d s = cond (eqb i 0) s (cond (eqb e i) (towards In d (txStored w) s) s)
+leaves (rxcsrl w) i e d s = cond (eqb i 0) s (cond (eqb e i) (towards Out d (rxStored w) s) s)
+leaves (iso c) i e d s = cond (eqb i 0) s (cond (eqb e i) (towards c d withIso s) s)
+leaves (maxp c n) i e d s = cond (eqb i 0) s (cond (eqb e i) (towards c d (withMaxp n) s) s)
 leaves intrusbe i e d s = s
 leaves (intre c v) i e d s = s
 leaves (packet n) i e d s = cond (eqb n 0) s (cond (eqb e i) (towards In d (withLen n) s) s)
@@ -102,6 +103,27 @@ ends (maxp d n) b = b
 ends intrusbe b = b
 ends (intre d v) b = b
 ends (packet n) b = b
+
+-- whether a store answers the packet that endpoint 0 has received: by ServicedRxPktRdy of CSR0L, or by the flush of CSR0H
+abbrev pub services : Store → Bool
+services (faddr a) = false
+services power = false
+services (index e) = false
+services (csr0l w) = w .«serviced_rx_pkt_rdy»
+services csr0h = true
+services (txcsrl w) = false
+services (rxcsrl w) = false
+services (iso d) = false
+services (maxp d n) = false
+services intrusbe = false
+services (intre d v) = false
+services (packet n) = false
+
+-- endpoint 0's receive side before and after a store that answers its packet, or does not: "RxPktRdy .. of endpoint 0 .. cleared only by ..
+-- Serviced bits or a flush"; "Clearing RxPktRdy drops the packet. A drop makes its length 0"
+pub record Answered (services : Bool) (before after : Side) : Type 0 where
+  pub ready : after .ready ≡ (before .ready && not services)
+  pub len : after .len ≡ cond services 0 (before .len)
 
 -- what a store lists: its register and its value
 abbrev pub register : Store → ℕ
@@ -151,8 +173,8 @@ isListed (packet n) = not (eqb n 0)
 pub record Noted (o : Store) (g h : Log) : Type 0 where
   pub ended : file.setupend (h .regs) ≡ ends o (file.setupend (g .regs))
   pub number : (q : ℕ) → q < 9 → getD (h .regs) q 0 ≡ writes o q (getD (g .regs) q 0)
-  pub list : isListed o ≡ true → h .list ≡ listed (g .list) (g .count) (register o) (file.index (h .regs)) (value o)
-  pub count : isListed o ≡ true → h .count ≡ g .count + 1
+  pub list : h .list ≡ cond (isListed o) (listed (g .list) (g .count) (register o) (file.index (h .regs)) (value o)) (g .list)
+  pub count : h .count ≡ cond (isListed o) (g .count + 1) (g .count)
 
 -- the registers q after a store to the registers r: the pending interrupts are kept, and no register comes or goes
 pub record Kept (r q : File) (selection address : ℕ) : Type 0 where

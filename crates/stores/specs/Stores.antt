@@ -7,13 +7,14 @@ use lib.Dec.{eqb}
 use Rattle.laws.specs.Words.{raised}
 use Rattle.board.specs.declared.Direction.{Direction}
 use Rattle.board.specs.declared.Direction.the-variants.{Out, In}
+use Rattle.csr.specs.declared.Side.{Side}
 use Rattle.csr.specs.declared.Csr0l.{Csr0l}
 use Rattle.csr.specs.declared.Txcsrl.{Txcsrl}
 use Rattle.csr.specs.declared.Rxcsrl.{Rxcsrl}
 use Rattle.csr.specs.declared.Csr0lSet.{Csr0lSet}
 use Rattle.csr.specs.declared.TxcsrlSet.{TxcsrlSet}
 use Rattle.csr.specs.declared.RxcsrlSet.{RxcsrlSet}
-use Rattle.regs.specs.Registers.{File, index, withIndex, withFaddr, withPower, withIntrusbe, chosen, withChosen, enabledOf, withEnabled}
+use Rattle.regs.specs.Registers.{File, index, withIndex, withFaddr, withPower, withIntrusbe, withSide, chosen, withChosen, enabledOf, withEnabled}
 use Rattle.csr.specs.Registers.{withIso, withMaxp, withLen}
 use Rattle.csr.specs.Control.{csr0lNumber, txcsrlNumber, rxcsrlNumber, txStored, rxStored, csr0lSet, txcsrlSet, rxcsrlSet}
 use Rattle.regs.specs.Control.{csr0lRead, txcsrlRead, rxcsrlRead, csr0lStored, csr0hFlushed}
@@ -46,11 +47,16 @@ writeIndex e g = record { regs = withIndex (g .regs) e; list = listed (g .list) 
 unfoldable pub writeCsr0l : Csr0l → Log → Log
 writeCsr0l w g = noted CSR0L (csr0lNumber w) (csr0lStored w (g .regs)) (g .list) (g .count)
 
+-- TXCSRL, RXCSRL, TXCSRH, RXCSRH, TXMAXP and RXMAXP are the selected endpoint's. Endpoint 0 has none of them: a store there changes nothing,
+-- and is listed all the same.
+unfoldable pub withOwn : File → ℕ → Direction → Side → File
+withOwn w e d s = cond (eqb e 0) w (withSide w e d s)
+
 unfoldable pub writeTxcsrl : Txcsrl → Log → Log
-writeTxcsrl w g = noted TXCSRL (txcsrlNumber w) (withChosen (g .regs) In (txStored w (chosen (g .regs) In))) (g .list) (g .count)
+writeTxcsrl w g = noted TXCSRL (txcsrlNumber w) (withOwn (g .regs) (index (g .regs)) In (txStored w (chosen (g .regs) In))) (g .list) (g .count)
 
 unfoldable pub writeRxcsrl : Rxcsrl → Log → Log
-writeRxcsrl w g = noted RXCSRL (rxcsrlNumber w) (withChosen (g .regs) Out (rxStored w (chosen (g .regs) Out))) (g .list) (g .count)
+writeRxcsrl w g = noted RXCSRL (rxcsrlNumber w) (withOwn (g .regs) (index (g .regs)) Out (rxStored w (chosen (g .regs) Out))) (g .list) (g .count)
 
 -- "`modify` from what is read"
 unfoldable pub modifyCsr0l : Csr0lSet → Log → Log
@@ -68,10 +74,10 @@ flushCsr0h g = noted CSR0H 1 (csr0hFlushed (g .regs)) (g .list) (g .count)
 
 -- "ISO is bit 6 of TXCSRH and RXCSRH": the source's only store there, a `write` of that bit
 unfoldable pub writeIso : Direction → Log → Log
-writeIso d g = noted (csrh d) 64 (withChosen (g .regs) d (withIso (chosen (g .regs) d))) (g .list) (g .count)
+writeIso d g = noted (csrh d) 64 (withOwn (g .regs) (index (g .regs)) d (withIso (chosen (g .regs) d))) (g .list) (g .count)
 
 unfoldable pub writeMaxp : Direction → ℕ → Log → Log
-writeMaxp d size g = noted (maxp d) size (withChosen (g .regs) d (withMaxp size (chosen (g .regs) d))) (g .list) (g .count)
+writeMaxp d size g = noted (maxp d) size (withOwn (g .regs) (index (g .regs)) d (withMaxp size (chosen (g .regs) d))) (g .list) (g .count)
 
 unfoldable pub writeIntrusbe : Log → Log
 writeIntrusbe g = noted INTRUSBE 7 (withIntrusbe (g .regs) 7) (g .list) (g .count)

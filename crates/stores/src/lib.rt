@@ -5,13 +5,14 @@ use csr::Csr0l;
 use csr::Csr0lSet;
 use csr::Rxcsrl;
 use csr::RxcsrlSet;
+use csr::Side;
 use csr::Txcsrl;
 use csr::TxcsrlSet;
 ghost use mathlib.Core.Path.{_≡_};
 ghost use Prim.Native.Nat.{_+_, _*_, _≤_, _<_};
 ghost use lib.ListN.{length};
 ghost use Rattle.regs.specs.Registers.{enabledOf, withEnabled};
-ghost use Rattle.stores.specs.Stores.{log, noted, writeFaddr, writePower, writeIndex, writeCsr0l, writeTxcsrl, writeRxcsrl, modifyCsr0l, modifyTxcsrl, modifyRxcsrl, flushCsr0h, writeIso, writeMaxp, writeIntrusbe, writeIntre, modifyIntre, writePacket};
+ghost use Rattle.stores.specs.Stores.{log, noted, withOwn, writeFaddr, writePower, writeIndex, writeCsr0l, writeTxcsrl, writeRxcsrl, modifyCsr0l, modifyTxcsrl, modifyRxcsrl, flushCsr0h, writeIso, writeMaxp, writeIntrusbe, writeIntre, modifyIntre, writePacket};
 
 // The store that left these registers, listed.
 fn note(w: &[u16; 46], list: &mut [u16], n: usize, register: u16, value: u16) -> usize
@@ -53,13 +54,23 @@ pub fn write_csr0l(w: &mut [u16; 46], list: &mut [u16], n: usize, v: Csr0l) -> u
     note(w, list, n, store_list::CSR0L, csr::csr0l_number(v))
 }
 
+// Another state of the selected endpoint's side, by one of the registers that endpoints 1 to 5 have each for itself. Endpoint 0 has none of them.
+fn put_own(w: &mut [u16; 46], e: u16, d: Direction, s: Side)
+    ensures { λ _. ⌜ now (w .exit) ≡ withOwn (now (w .entry)) e d s ⌝ }
+{
+    if e == 0 {
+        return;
+    }
+    regs::put_side(w, e, d, s);
+}
+
 pub fn write_txcsrl(w: &mut [u16; 46], list: &mut [u16], n: usize, v: Txcsrl) -> usize
     requires { ⌜ n * 3 + 3 ≤ length (now list) ⌝ }
     ensures { λ m. ⌜ (log (now (w .exit)) (now (list .exit)) m ≡ writeTxcsrl v (log (now (w .entry)) (now (list .entry)) n)) × (m ≡ n + 1) ⌝ }
 {
     let e = w[regs::INDEX];
     let s = csr::tx_stored(v, regs::side_at(w, e, Direction::In));
-    regs::put_side(w, e, Direction::In, s);
+    put_own(w, e, Direction::In, s);
     note(w, list, n, store_list::TXCSRL, csr::txcsrl_number(v))
 }
 
@@ -69,7 +80,7 @@ pub fn write_rxcsrl(w: &mut [u16; 46], list: &mut [u16], n: usize, v: Rxcsrl) ->
 {
     let e = w[regs::INDEX];
     let s = csr::rx_stored(v, regs::side_at(w, e, Direction::Out));
-    regs::put_side(w, e, Direction::Out, s);
+    put_own(w, e, Direction::Out, s);
     note(w, list, n, store_list::RXCSRL, csr::rxcsrl_number(v))
 }
 
@@ -85,16 +96,22 @@ pub fn modify_txcsrl(w: &mut [u16; 46], list: &mut [u16], n: usize, s: TxcsrlSet
     requires { ⌜ n * 3 + 3 ≤ length (now list) ⌝ }
     ensures { λ m. ⌜ (log (now (w .exit)) (now (list .exit)) m ≡ modifyTxcsrl s (log (now (w .entry)) (now (list .entry)) n)) × (m ≡ n + 1) ⌝ }
 {
-    let v = csr::txcsrl_set(s, regs::read_txcsrl(w));
-    write_txcsrl(w, list, n, v)
+    let e = w[regs::INDEX];
+    let side = regs::side_at(w, e, Direction::In);
+    let v = csr::txcsrl_set(s, csr::txcsrl_of(side));
+    put_own(w, e, Direction::In, csr::tx_stored(v, side));
+    note(w, list, n, store_list::TXCSRL, csr::txcsrl_number(v))
 }
 
 pub fn modify_rxcsrl(w: &mut [u16; 46], list: &mut [u16], n: usize, s: RxcsrlSet) -> usize
     requires { ⌜ n * 3 + 3 ≤ length (now list) ⌝ }
     ensures { λ m. ⌜ (log (now (w .exit)) (now (list .exit)) m ≡ modifyRxcsrl s (log (now (w .entry)) (now (list .entry)) n)) × (m ≡ n + 1) ⌝ }
 {
-    let v = csr::rxcsrl_set(s, regs::read_rxcsrl(w));
-    write_rxcsrl(w, list, n, v)
+    let e = w[regs::INDEX];
+    let side = regs::side_at(w, e, Direction::Out);
+    let v = csr::rxcsrl_set(s, csr::rxcsrl_of(side));
+    put_own(w, e, Direction::Out, csr::rx_stored(v, side));
+    note(w, list, n, store_list::RXCSRL, csr::rxcsrl_number(v))
 }
 
 // CSR0H reads 0, so that `modify` with the flush bit stores that bit alone.
@@ -113,7 +130,7 @@ pub fn write_iso(w: &mut [u16; 46], list: &mut [u16], n: usize, d: Direction) ->
     let e = w[regs::INDEX];
     let mut s = regs::side_at(w, e, d);
     s.iso = true;
-    regs::put_side(w, e, d, s);
+    put_own(w, e, d, s);
     note(w, list, n, store_list::csrh_of(d), 64)
 }
 
@@ -124,7 +141,7 @@ pub fn write_maxp(w: &mut [u16; 46], list: &mut [u16], n: usize, d: Direction, s
     let e = w[regs::INDEX];
     let mut s = regs::side_at(w, e, d);
     s.maxp = size;
-    regs::put_side(w, e, d, s);
+    put_own(w, e, d, s);
     note(w, list, n, store_list::maxp_of(d), size)
 }
 

@@ -10,8 +10,8 @@ side-at-requires c κs = search needs
 side-at-requires-2 : tie.Need-side-at-requires-2
 side-at-requires-2 c κs = search needs
 
-element-copy-out-t7 : tie.Need-element-copy-out-t7
-element-copy-out-t7 c = search needs
+element-copy-out-ended : tie.Need-element-copy-out-ended
+element-copy-out-ended c = search needs
 
 returns : tie.Need-returns
 unfolding csr0lRead setupend
@@ -19,4 +19,4 @@ returns c = cc
 
 pub read-csr0l-spec : {M : Type 1} → statement M
 read-csr0l-spec =
-    tie.close (tie.spec side-at-requires side-at-requires-2 element-copy-out-t7 returns)
+    tie.close (tie.spec side-at-requires side-at-requires-2 element-copy-out-ended returns)

@@ -10,8 +10,8 @@ element-copy-out-e c = search needs
 side-at-requires : tie.Need-side-at-requires
 side-at-requires c κs = search needs
 
-put-side-requires : tie.Need-put-side-requires
-put-side-requires c κs = search needs
+put-own-requires : tie.Need-put-own-requires
+put-own-requires c κs = search needs
 
 csrh-of-requires : tie.Need-csrh-of-requires
 csrh-of-requires c κs = search needs
@@ -32,7 +32,7 @@ write-iso-spec =
     (tie.spec
     element-copy-out-e
     side-at-requires
-    put-side-requires
+    put-own-requires
     csrh-of-requires
     note-requires
     same-length

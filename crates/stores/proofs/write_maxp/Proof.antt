@@ -10,8 +10,8 @@ element-copy-out-e c = search needs
 side-at-requires : tie.Need-side-at-requires
 side-at-requires c κs = search needs
 
-put-side-requires : tie.Need-put-side-requires
-put-side-requires c κs = search needs
+put-own-requires : tie.Need-put-own-requires
+put-own-requires c κs = search needs
 
 maxp-of-requires : tie.Need-maxp-of-requires
 maxp-of-requires c κs = search needs
@@ -32,7 +32,7 @@ write-maxp-spec =
     (tie.spec
     element-copy-out-e
     side-at-requires
-    put-side-requires
+    put-own-requires
     maxp-of-requires
     note-requires
     same-length

@@ -13,8 +13,8 @@ side-at-requires c κs = search needs
 rx-stored-requires : tie.Need-rx-stored-requires
 rx-stored-requires c κs = search needs
 
-put-side-requires : tie.Need-put-side-requires
-put-side-requires c κs = search needs
+put-own-requires : tie.Need-put-own-requires
+put-own-requires c κs = search needs
 
 rxcsrl-number-requires : tie.Need-rxcsrl-number-requires
 rxcsrl-number-requires c κs = search needs
@@ -36,7 +36,7 @@ write-rxcsrl-spec =
     element-copy-out-e
     side-at-requires
     rx-stored-requires
-    put-side-requires
+    put-own-requires
     rxcsrl-number-requires
     note-requires
     same-length

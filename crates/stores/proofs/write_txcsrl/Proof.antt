@@ -13,8 +13,8 @@ side-at-requires c κs = search needs
 tx-stored-requires : tie.Need-tx-stored-requires
 tx-stored-requires c κs = search needs
 
-put-side-requires : tie.Need-put-side-requires
-put-side-requires c κs = search needs
+put-own-requires : tie.Need-put-own-requires
+put-own-requires c κs = search needs
 
 txcsrl-number-requires : tie.Need-txcsrl-number-requires
 txcsrl-number-requires c κs = search needs
@@ -36,7 +36,7 @@ write-txcsrl-spec =
     element-copy-out-e
     side-at-requires
     tx-stored-requires
-    put-side-requires
+    put-own-requires
     txcsrl-number-requires
     note-requires
     same-length
