@@ -1,3 +1,4 @@
 pub mod Promises
 pub mod Others
+pub mod Named
 pub mod Halts
