@@ -7,12 +7,14 @@ use mathlib.Core.List.{List}
 use native.Mathlib.Omega.{arith}
 use native.Mathlib.Decide.{ℕ-discrete}
 use lib.ListN.{length, getD}
+use Rattle.laws.specs.Words.{bit}
 use Rattle.laws.proofs.Tests.{clash}
 use Rattle.board.specs.declared.Direction.{Direction}
 use Rattle.board.specs.declared.Direction.the-variants.{Out, In}
 use Rattle.board.specs.Boards.{rows, at-most-six}
 use Rattle.csr.specs.declared.Side.{Side}
-use Rattle.regs.specs.Registers.{Whole, sideAt, faddr}
+use Rattle.csr.proofs.Sides.{same-direction}
+use Rattle.regs.specs.Registers.{Whole, sideAt, faddr, enabledOf}
 use Rattle.endpoints.specs.declared.EndpointData.{EndpointData}
 use Rattle.endpoints.specs.Endpoints.{blank, kindOf, sizeIn, usedIn, used}
 use Rattle.stores.specs.Stores.{Log, writePower}
@@ -20,7 +22,7 @@ use Rattle.stores.specs.Promise.{power}
 use Rattle.stores.proofs.Promises.{sides, rest}
 use Rattle.common_impl.specs.Kept.{NoPacket}
 use Rattle.enabling.specs.Common.{isochronous, epTxEnable, epRxEnable}
-use Rattle.enabling.specs.Enabling.{Ready, Enables, EnablesZero}
+use Rattle.enabling.specs.Enabling.{Raised, Ready, Enables, EnablesZero}
 use Rattle.enabling.proofs.Enabling.{tx-enables, rx-enables, tx-enables-zero, rx-enables-zero}
 use Rattle.record.specs.declared.Record.{Record}
 use Rattle.record.specs.declared.Refusal.{Refusal}
@@ -34,6 +36,14 @@ use Rattle.usb_device_impl.specs.Calls.{stored, unless, short, begun, idled}
 use Rattle.usb_device_reset.specs.Calls.{txEnabled, rxEnabled, usedEnabled, enabledBelow, resetStores, resetCall}
 use Rattle.usb_device_reset.specs.Resetting.{Resets}
 
+-- a bit that is up stays up where another is raised
+word-up : (e j : ℕ) {v w : ℕ} → j < 16 → Raised e v w → bit v j ≡ true → bit w j ≡ true
+word-up e j {v} {w} low r up = go (ℕ-discrete j e)
+  where
+    go : Dec (j ≡ e) → bit w j ≡ true
+    go (yes q) = subst (λ (x : ℕ). bit w x ≡ true) (sym q) (r .set)
+    go (no m) = r .others j low m ∙ up
+
 -- one direction of endpoint n, used or not, between the logs a and b
 record Turn (d : Direction) (n : ℕ) (u iso : Bool) (size : ℕ) (a b : Log) : Type 0 where
   six : Whole (b .regs)
@@ -43,6 +53,9 @@ record Turn (d : Direction) (n : ℕ) (u iso : Bool) (size : ℕ) (a b : Log) : 
   flip : (n ≡ 0 → ⊥) → (c : Direction) → (c ≡ d → ⊥) → sideAt (b .regs) n c ≡ sideAt (a .regs) n c
   elsewhere : (f : ℕ) (c : Direction) → (f ≡ n → ⊥) → sideAt (b .regs) f c ≡ sideAt (a .regs) f c
   empty : n ≡ 0 → u ≡ true → (c : Direction) → NoPacket (sideAt (b .regs) 0 c)
+  raised : (n ≡ 0 → ⊥) → u ≡ true → bit (enabledOf d (b .regs)) n ≡ true
+  zero-raised : n ≡ 0 → u ≡ true → bit (enabledOf In (b .regs)) 0 ≡ true
+  stays-up : (c : Direction) (j : ℕ) → j < 16 → bit (enabledOf c (a .regs)) j ≡ true → bit (enabledOf c (b .regs)) j ≡ true
 
 not-used : (d : Direction) (n : ℕ) (iso : Bool) (size : ℕ) (a : Log) → Whole (a .regs) → Turn d n false iso size a a
 not-used d n iso size a six = record {
@@ -53,6 +66,9 @@ not-used d n iso size a six = record {
   flip = λ z c m. refl;
   elsewhere = λ f c m. refl;
   empty = λ z p. clash (sym p);
+  raised = λ z p. clash (sym p);
+  zero-raised = λ z p. clash (sym p);
+  stays-up = λ c j low up. up;
 }
 
 other-used : (d : Direction) (n : ℕ) (iso : Bool) (size : ℕ) (a b : Log) → Whole (a .regs) → (n ≡ 0 → ⊥) → Enables d n iso size a b → Turn d n true iso size a b
@@ -64,7 +80,14 @@ other-used d n iso size a b six nz k = record {
   flip = λ z c m. k .others n c (λ _. m);
   elsewhere = λ f c m. k .others f c (λ p _. m p);
   empty = λ z. absurd (nz z);
+  raised = λ z p. k .interrupt .set;
+  zero-raised = λ z. absurd (nz z);
+  stays-up = λ c j low up. up-by c (same-direction c d) j low up;
 }
+  where
+    up-by : (c : Direction) → Dec (c ≡ d) → (j : ℕ) → j < 16 → bit (enabledOf c (a .regs)) j ≡ true → bit (enabledOf c (b .regs)) j ≡ true
+    up-by c (yes q) j low up = subst (λ (x : Direction). bit (enabledOf x (b .regs)) j ≡ true) (sym q) (word-up n j low (k .interrupt) (subst (λ (x : Direction). bit (enabledOf x (a .regs)) j ≡ true) q up))
+    up-by c (no m) j low up = ap (λ (w : ℕ). bit w j) (k .otherWord c m) ∙ up
 
 zero-used : (d : Direction) (iso : Bool) (size : ℕ) (a b : Log) → Whole (a .regs) → EnablesZero a b → Turn d 0 true iso size a b
 zero-used d iso size a b six k = record {
@@ -75,7 +98,14 @@ zero-used d iso size a b six k = record {
   flip = λ z. absurd (z refl);
   elsewhere = λ f c m. k .others f c m;
   empty = λ z p. k .empty;
+  raised = λ z. absurd (z refl);
+  zero-raised = λ z p. k .interrupt .set;
+  stays-up = zero-up;
 }
+  where
+    zero-up : (c : Direction) (j : ℕ) → j < 16 → bit (enabledOf c (a .regs)) j ≡ true → bit (enabledOf c (b .regs)) j ≡ true
+    zero-up In j low up = word-up 0 j low (k .interrupt) up
+    zero-up Out j low up = ap (λ (w : ℕ). bit w j) (k .otherWord) ∙ up
 
 -- the two of an endpoint
 module _ (p : EndpointData) (a : Log) (six : Whole (a .regs)) where
@@ -117,6 +147,8 @@ module _ (es : List EndpointData) (g : Log) where
     enabled : (e : ℕ) (d : Direction) → (e ≡ 0 → ⊥) → e < n → usedIn (data-at e) d ≡ true
         → Ready (isochronous (kindOf (data-at e))) (sizeIn (data-at e) d) (sideAt (g .regs) e d) (sideAt (h .regs) e d)
     unused : (e : ℕ) (d : Direction) → (e ≡ 0 → ⊥) → (e < n → usedIn (data-at e) d ≡ false) → sideAt (h .regs) e d ≡ sideAt (g .regs) e d
+    interrupt : (e : ℕ) (d : Direction) → (e ≡ 0 → ⊥) → e < n → usedIn (data-at e) d ≡ true → bit (enabledOf d (h .regs)) e ≡ true
+    zero-interrupt : 0 < n → used (data-at 0) ≡ true → bit (enabledOf In (h .regs)) 0 ≡ true
     zero : 0 < n → used (data-at 0) ≡ true → (d : Direction) → NoPacket (sideAt (h .regs) 0 d)
     zero-unused : used (data-at 0) ≡ false → (d : Direction) → sideAt (h .regs) 0 d ≡ sideAt (g .regs) 0 d
 
@@ -199,12 +231,42 @@ module _ (es : List EndpointData) (g : Log) where
         go (yes z) = left-so _ _ refl refl (subst (λ (x : ℕ). used (data-at x) ≡ false) (sym z) u) d ∙ k .zero-unused u d
         go (no m) = passed 0 d (λ q. m (sym q)) ∙ k .zero-unused u d
 
+    stays-up-two : (c : Direction) (j : ℕ) → j < 16 → bit (enabledOf c (h .regs)) j ≡ true → bit (enabledOf c (h2 .regs)) j ≡ true
+    stays-up-two c j b up = t2 .stays-up c j b (t1 .stays-up c j b up)
+
+    raised-here : (d : Direction) → (n ≡ 0 → ⊥) → usedIn p d ≡ true → bit (enabledOf d (h2 .regs)) n ≡ true
+    raised-here In nz u = t2 .stays-up In n (omega arith) (t1 .raised nz u)
+    raised-here Out nz u = t2 .raised nz u
+
+    interrupt-now : (e : ℕ) (d : Direction) → (e ≡ 0 → ⊥) → e < suc n → usedIn (data-at e) d ≡ true → bit (enabledOf d (h2 .regs)) e ≡ true
+    interrupt-now e d nz lt u = go (ℕ-discrete e n)
+      where
+        go : Dec (e ≡ n) → bit (enabledOf d (h2 .regs)) e ≡ true
+        go (yes q) =
+            subst (λ (x : ℕ). bit (enabledOf d (h2 .regs)) x ≡ true) (sym q)
+            (raised-here d (λ z. nz (q ∙ z)) (subst (λ (x : ℕ). usedIn (data-at x) d ≡ true) q u))
+        go (no m) = stays-up-two d e (omega arith) (k .interrupt e d nz (omega arith) u)
+
+    raised-zero : n ≡ 0 → (x y : Bool) → usedIn p Out ≡ x → usedIn p In ≡ y → (x || y) ≡ true → bit (enabledOf In (h2 .regs)) 0 ≡ true
+    raised-zero z true y q r u = t2 .zero-raised z q
+    raised-zero z false true q r u = t2 .stays-up In 0 (omega arith) (t1 .zero-raised z r)
+    raised-zero z false false q r u = clash (sym u)
+
+    zero-interrupt-now : used (data-at 0) ≡ true → bit (enabledOf In (h2 .regs)) 0 ≡ true
+    zero-interrupt-now u = go (ℕ-discrete n 0)
+      where
+        go : Dec (n ≡ 0) → bit (enabledOf In (h2 .regs)) 0 ≡ true
+        go (yes z) = raised-zero z _ _ refl refl (subst (λ (x : ℕ). used (data-at x) ≡ true) (sym z) u)
+        go (no m) = stays-up-two In 0 (omega arith) (k .zero-interrupt (omega (arith, m)) u)
+
     one-more : Below (suc n) h2
     one-more = record {
       six = t2 .six;
       address = t2 .address ∙ t1 .address ∙ k .address;
       enabled = enabled-now;
       unused = unused-now;
+      interrupt = interrupt-now;
+      zero-interrupt = λ _. zero-interrupt-now;
       zero = λ _. zero-now;
       zero-unused = zero-left;
     }
@@ -216,6 +278,8 @@ module _ (es : List EndpointData) (g : Log) where
     address = refl;
     enabled = λ e d nz lt. absurd (omega (arith, lt));
     unused = λ e d nz f. refl;
+    interrupt = λ e d nz lt. absurd (omega (arith, lt));
+    zero-interrupt = λ lt. absurd (omega (arith, lt));
     zero = λ lt. absurd (omega (arith, lt));
     zero-unused = λ u d. refl;
   }
@@ -243,8 +307,11 @@ reset k l six a = go (admissionBy (short l) (recordSound k) false) refl a
         let at : (e : ℕ) (d : Direction) → sideAt (h .regs) e d ≡ sideAt (g .regs) e d = λ e d. sides power g e d six (omega (arith, s .regs .selected, low)) in
         record {
           enabled = λ e d nz lt u. subst (λ (x : Side). Ready (isochronous (kindOf (getD (k .endpoints) e blank))) (sizeIn (getD (k .endpoints) e blank) d) x (sideAt (enabledBelow (k .endpoints) (length (rows (k .regs .board))) h .regs) e d)) (at e d) (b .enabled e d nz lt u);
+          empty = λ e d nz lt u. b .enabled e d nz lt u .empty (λ q. ap (λ (x : Side). x .len) (at e d) ∙ s .regs .side e d .none (ap (λ (x : Side). x .ready) (sym (at e d)) ∙ q));
+          interrupt = b .interrupt;
           unused = λ e d nz f. b .unused e d nz f ∙ at e d;
           zero = b .zero;
+          zeroInterrupt = b .zero-interrupt;
           zeroUnused = λ u d. b .zero-unused u d ∙ at 0 d;
           idle = refl;
           remaining = refl;
