@@ -1,1 +1,3 @@
 pub mod Common
+pub mod Kept
+pub mod Stalling

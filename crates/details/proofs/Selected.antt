@@ -5,18 +5,18 @@ use Rattle.board.specs.declared.Direction.{Direction}
 use Rattle.board.specs.declared.Direction.the-variants.{Out, In}
 use Rattle.csr.specs.declared.Side.{Side}
 use Rattle.csr.specs.Control.{txcsrlOf, rxcsrlOf, txcsrlNumber, rxcsrlNumber}
-use Rattle.regs.specs.Registers.{File, Whole, withIndex, sideAt, chosen}
+use Rattle.regs.specs.Registers.{File, withIndex, sideAt, chosen}
 use Rattle.regs.specs.Control.{txcsrlRead, rxcsrlRead}
-use Rattle.regs.proofs.Readings.{reselected, selected}
+use Rattle.regs.proofs.Readings.{reselected, chosen-selected}
 use Rattle.details.specs.Numbers.{txcsrlAt, rxcsrlAt}
 
-seen : (r : File) (e : ℕ) (d : Direction) → Whole r → sideAt r e d ≡ chosen (withIndex r e) d
-seen r e d w = sym (reselected r e e d) ∙ ap (λ (i : ℕ). sideAt (withIndex r e) i d) (sym (selected r e w))
+seen : (r : File) (e : ℕ) (d : Direction) → sideAt r e d ≡ chosen (withIndex r e) d
+seen r e d = sym (chosen-selected r e d ∙ reselected r e e d)
 
-pub selected-tx : (r : File) (e : ℕ) → Whole r → txcsrlAt r e ≡ txcsrlNumber (txcsrlRead (withIndex r e))
+pub selected-tx : (r : File) (e : ℕ) → txcsrlAt r e ≡ txcsrlNumber (txcsrlRead (withIndex r e))
 unfolding txcsrlAt
-selected-tx r e w = ap (λ (s : Side). txcsrlNumber (txcsrlOf s)) (seen r e In w)
+selected-tx r e = ap (λ (s : Side). txcsrlNumber (txcsrlOf s)) (seen r e In)
 
-pub selected-rx : (r : File) (e : ℕ) → Whole r → rxcsrlAt r e ≡ rxcsrlNumber (rxcsrlRead (withIndex r e))
+pub selected-rx : (r : File) (e : ℕ) → rxcsrlAt r e ≡ rxcsrlNumber (rxcsrlRead (withIndex r e))
 unfolding rxcsrlAt
-selected-rx r e w = ap (λ (s : Side). rxcsrlNumber (rxcsrlOf s)) (seen r e Out w)
+selected-rx r e = ap (λ (s : Side). rxcsrlNumber (rxcsrlOf s)) (seen r e Out)

@@ -15,7 +15,7 @@ use Rattle.record.specs.declared.Flags.{Flags}
 use Rattle.record.specs.declared.Record.{Record}
 use Rattle.record.specs.declared.Admission.{Admission}
 use Rattle.record.specs.declared.Admission.the-variants as admission
-use Rattle.record.specs.Record.{needIn, listNeed}
+use Rattle.record.specs.Record.{needIn, listNeed, refusalNumber}
 use Rattle.peek.specs.declared.Verdict.{Verdict}
 use Rattle.peek.specs.declared.Verdict.the-variants as verdict
 use Rattle.peek.specs.declared.Served.{Served}
@@ -42,6 +42,12 @@ rxCount e w = sideAt w e Out .len
 abbrev pub testsBy : Admission → Verdict → Verdict
 testsBy admission.Clear own = own
 testsBy (admission.Refused x) own = verdict.Refused x
+
+-- document 01's reply of a verdict, 0 where none is refused
+abbrev pub verdictNumber : Verdict → ℕ
+verdictNumber verdict.Clear = 0
+verdictNumber verdict.Blocked = 6
+verdictNumber (verdict.Refused x) = refusalNumber x
 
 -- what the steps of a call leave: the registers, the list and its count, the control state, the flags
 pub record After : Type 0 where

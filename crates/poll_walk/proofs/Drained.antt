@@ -12,8 +12,10 @@ use lib.Dec.{T, T-not, eqb, eqb-refl}
 use borrow.Author.Tests.{ne-eqb}
 use Rattle.laws.specs.Words.{bit, clear, bitsBelow, setBits}
 use Rattle.laws.proofs.Words.{bit-clear, clear-lt}
+use Rattle.laws.proofs.Tests.{and-zero, and-one}
 use Rattle.stores.specs.Stores.{Log, writeIndex}
 use Rattle.poll_walk.specs.Round.{Walk, readyAt, drained, visit, walked}
+use Rattle.poll_walk.specs.Cleared.{ClearsHighest}
 
 -- the walk over any ready bits, without its stores
 abbrev pub drainedBy : ℕ → (ℕ → Bool) → ℕ → ℕ → ℕ
@@ -57,6 +59,17 @@ and-right false b t = absurd t
 and-both : (a b : Bool) → T a → T b → T (a && b)
 and-both true b t u = u
 and-both false b t u = t
+
+holds : (b : Bool) → T b → b ≡ true
+holds true t = refl
+holds false t = absurd t
+
+held : {b : Bool} → b ≡ true → T b
+held p = subst T (sym p) tt
+
+fails : (b : Bool) → T (not b) → b ≡ false
+fails true t = absurd t
+fails false t = refl
 
 apart : (a b : ℕ) → (a ≡ b → ⊥) → T (not (eqb a b))
 apart a b n = subst (λ (x : Bool). T (not x)) (sym (ne-eqb a b n)) tt
@@ -179,3 +192,22 @@ module _ (flags : ℕ) (ready : ℕ → Bool) where
 
     pub left-low : leftBy flags ready < 64
     left-low = at-most _ whole
+
+    -- document 01's own words: the highest drained flag goes, and no other
+    said : (w : ℕ) → Left 6 w → ClearsHighest flags ready w
+    said w (inl x) = inl (x .0, λ i h p. holds (ready i) (x .1 i h (held p)))
+    said w (inr x) =
+        let k = x .0 in
+        let t = x .2 in
+        let at : (j : ℕ) → j < 6 → bit w j ≡ (bit flags j && not (eqb j k)) = λ j h. ap (λ (m : ℕ). bit m j) (x .1) ∙ gone k j (t .low) h in
+        inr (
+          k,
+          record { low = t .low; set = holds (bit flags k) (t .set); drained = fails (ready k) (t .empty); above = λ i a h p. holds (ready i) (t .above i a h (held p)) },
+          record {
+            gone = at k (t .low) ∙ ap (λ (b : Bool). bit flags k && not b) (holds (eqb k k) (eqb-refl k)) ∙ and-zero (bit flags k);
+            others = λ j h n. at j h ∙ ap (λ (b : Bool). bit flags j && not b) (ne-eqb j k n) ∙ and-one (bit flags j);
+          },
+        )
+
+    pub clears-highest : ClearsHighest flags ready (leftBy flags ready)
+    clears-highest = said _ whole

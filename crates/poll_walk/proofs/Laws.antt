@@ -17,7 +17,7 @@ use Rattle.laws.specs.Words.{clear}
 use Rattle.poll_walk.specs.Round.{Walk, walk, readyAt, drained, visit}
 
 -- after the index store the endpoint's own RxPktRdy is the one that is read
-ready-selected : (w : File) (e : ℕ) → sideAt (withIndex w e) e Out .ready ≡ readyAt e (withIndex w e)
+pub ready-selected : (w : File) (e : ℕ) → sideAt (withIndex w e) e Out .ready ≡ readyAt e (withIndex w e)
 unfolding readyAt
 ready-selected w e = go (ℕ-discrete e 0)
   where

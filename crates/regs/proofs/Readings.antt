@@ -53,6 +53,11 @@ module _ (r : File) where
   unfolding csr0lRead
   zero-ended = refl
 
+-- CSR0L reads endpoint 0's sides and SetupEnd, and nothing else
+pub same-csr0l : (r q : File) → sideAt q 0 In ≡ sideAt r 0 In → sideAt q 0 Out ≡ sideAt r 0 Out → setupend q ≡ setupend r → csr0lRead q ≡ csr0lRead r
+unfolding csr0lRead
+same-csr0l r q i o s = rw (i, o, s)
+
 -- selecting an endpoint changes no side
 pub reselected : (r : File) (i e : ℕ) (d : Direction) → sideAt (withIndex r i) e d ≡ sideAt r e d
 unfolding withIndex

@@ -1,5 +1,6 @@
 pub mod Own
 pub mod Promises
 pub mod Others
+pub mod Named
 pub mod Halts
 pub mod AsWritten

@@ -16,13 +16,13 @@ use Rattle.record.specs.declared.Refusal.{Refusal}
 use Rattle.record.specs.declared.Refusal.the-variants.{WouldBlock}
 use Rattle.peek.specs.declared.Verdict.{Verdict}
 use Rattle.peek.specs.declared.Verdict.the-variants as verdict
-use Rattle.peek.specs.Peek.{rxCount, blocked}
+use Rattle.peek.specs.Peek.{rxCount, blocked, verdictNumber}
 use Rattle.read_zero.specs.declared.Got.the-variants.{Done, Refused}
 use Rattle.read_zero.specs.Read.{gotNumber, rxSize}
 use Rattle.read_tests.specs.Read.{waiting, tests}
 use Rattle.usb_device_read.specs.Read.{ReadOutcome, outcome, taken, refused, readBy, readIn, readCall}
 use Rattle.usb_device_read.specs.Replies.{Given}
-use Rattle.usb_device_read.proofs.Verdicts.{verdictNumber, meets, decides, is-blocked}
+use Rattle.usb_device_read.proofs.Verdicts.{meets, decides, is-blocked}
 
 -- "returns the packet's length"
 pub taken-done : (b : Board) (c : ControlState) (f : Flags) (size ep : ℕ) (x y : List ℕ) (g : Log) → taken b c f size ep x y g .answer ≡ Done (rxCount ep (g .regs))

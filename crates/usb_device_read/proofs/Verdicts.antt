@@ -9,20 +9,15 @@ use Rattle.board.specs.declared.Board.{Board}
 use Rattle.regs.specs.Registers.{File}
 use Rattle.control_state.specs.declared.ControlState.{ControlState}
 use Rattle.peek.specs.declared.Verdict.{Verdict}
-use Rattle.peek.specs.declared.Verdict.the-variants.{Clear, Blocked, Refused}
-use Rattle.peek.specs.Peek.{short, testsBy}
+use Rattle.peek.specs.declared.Verdict.the-variants.{Clear, Blocked}
+use Rattle.peek.specs.Peek.{short, testsBy, verdictNumber}
 use Rattle.peek.proofs.Lent.{lent-enough}
 use Rattle.record.specs.declared.Flags.{Flags}
 use Rattle.record.specs.declared.Record.{Record}
-use Rattle.record.specs.Record.{needIn, needOf, endpointsOf, passes, recordSound, refusalNumber, admissionBy}
+use Rattle.record.specs.Record.{needIn, needOf, endpointsOf, passes, recordSound, admissionBy}
 use Rattle.read_tests.specs.Read.{ownTests, ownTestsAt, testsIn, tests}
 use Rattle.usb_device_read.specs.Replies.{unready, notReadable, notSetup, Given, done, blocks, beyond, unreadable, unset, little, unsound}
 use Rattle.usb_device_read.proofs.Laws.{whole}
-
-abbrev pub verdictNumber : Verdict → ℕ
-verdictNumber Clear = 0
-verdictNumber Blocked = 6
-verdictNumber (Refused x) = refusalNumber x
 
 module _ (k : Record) (ep n f l : ℕ) where
   -- the six tests, as the rows of the table name them

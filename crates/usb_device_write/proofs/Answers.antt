@@ -16,12 +16,13 @@ use Rattle.record.specs.declared.Refusal.{Refusal}
 use Rattle.record.specs.declared.Refusal.the-variants.{WouldBlock}
 use Rattle.peek.specs.declared.Verdict.{Verdict}
 use Rattle.peek.specs.declared.Verdict.the-variants as verdict
+use Rattle.peek.specs.Peek.{verdictNumber}
 use Rattle.write_tests.specs.Write.{tests}
 use Rattle.write_zero.specs.declared.Wrote.the-variants.{Done, Refused}
 use Rattle.write_zero.specs.Write.{wroteNumber, txSize}
 use Rattle.usb_device_write.specs.Write.{Ran, WriteOutcome, outcome, refused, blockedCall, taken, writeBy, writeIn, writeCall}
 use Rattle.usb_device_write.specs.Replies.{Given}
-use Rattle.usb_device_write.proofs.Verdicts.{verdictNumber, meets, decides, is-blocked}
+use Rattle.usb_device_write.proofs.Verdicts.{meets, decides, is-blocked}
 
 -- a packet that is taken is done, at whatever endpoint and in whatever state
 pub taken-done : (b : Board) (c : ControlState) (f : Flags) (t ep : ℕ) (bytes x : List ℕ) (g : Log) → taken b c f t ep bytes x g .answer ≡ Done (length bytes)

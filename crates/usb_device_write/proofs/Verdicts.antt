@@ -10,24 +10,19 @@ use lib.Dec.{leb}
 use Rattle.board.specs.declared.Board.{Board}
 use Rattle.board.specs.declared.Direction.the-variants.{In}
 use Rattle.regs.specs.Registers.{File}
-use Rattle.peek.specs.Peek.{shortIn, short, txPktRdy, testsBy}
+use Rattle.peek.specs.Peek.{shortIn, short, txPktRdy, testsBy, verdictNumber}
 use Rattle.peek.specs.declared.Verdict.{Verdict}
-use Rattle.peek.specs.declared.Verdict.the-variants.{Clear, Blocked, Refused}
+use Rattle.peek.specs.declared.Verdict.the-variants.{Clear, Blocked}
 use Rattle.peek.proofs.Lent.{enough}
 use Rattle.peek.proofs.Endings.{below-six}
 use Rattle.control_state.specs.declared.ControlState.{ControlState}
 use Rattle.record.specs.declared.Flags.{Flags}
 use Rattle.record.specs.declared.Record.{Record}
 use Rattle.record.specs.Record as of
-use Rattle.record.specs.Record.{areaIn, needIn, endpointsIn, endpointsOf, recordSound, refusalNumber, admissionBy}
+use Rattle.record.specs.Record.{areaIn, needIn, endpointsIn, endpointsOf, recordSound, admissionBy}
 use Rattle.write_tests.specs.Write as write
 use Rattle.write_tests.specs.Write.{ownTests, ownTestsAt, testsIn, tests}
 use Rattle.usb_device_write.specs.Replies.{unready, tooLong, notWritable, Given, done, blocks, beyond, long, untaken, little, unsound}
-
-abbrev pub verdictNumber : Verdict → ℕ
-verdictNumber Clear = 0
-verdictNumber Blocked = 6
-verdictNumber (Refused x) = refusalNumber x
 
 module _ (k : Record) (ep n f l : ℕ) where
   -- the tests, one beside the other, as the rows name them

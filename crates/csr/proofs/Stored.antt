@@ -1,0 +1,92 @@
+-- What a store to a control register leaves alone of its side, and the numbers that the list has of the driver's own stores.
+-- Assumes nothing.
+use Prim.Native.Nat.{ℕ, _+_}
+use mathlib.Core.Path.{_≡_, refl}
+use mathlib.Core.Bool.{Bool, true, false, not, cond}
+use native.Mathlib.Omega.{arith}
+use Rattle.laws.proofs.Tests.{and-zero, and-one, or-zero}
+use Rattle.csr.specs.declared.Side.{Side}
+use Rattle.csr.specs.declared.Csr0l.{Csr0l}
+use Rattle.csr.specs.declared.Txcsrl.{Txcsrl}
+use Rattle.csr.specs.declared.Rxcsrl.{Rxcsrl}
+use Rattle.csr.specs.declared.Csr0lSet.the-variants as csr0l
+use Rattle.csr.specs.declared.TxcsrlSet.the-variants as txcsrl
+use Rattle.csr.specs.Control.{txStored, rxStored, zeroTxStored, dropped, csr0lNumber, txcsrlNumber, rxcsrlNumber, csr0lBits, txcsrlBits, rxcsrlBits, csr0lSet, txcsrlOf, txcsrlSet}
+
+-- ISO and the size
+pub tx-rest : (w : Txcsrl) (s : Side) → (txStored w s .iso ≡ s .iso) × (txStored w s .maxp ≡ s .maxp)
+unfolding txStored
+tx-rest w s = (refl, refl)
+
+pub rx-rest : (w : Rxcsrl) (s : Side) → (rxStored w s .iso ≡ s .iso) × (rxStored w s .maxp ≡ s .maxp)
+unfolding rxStored
+rx-rest w s = (refl, refl)
+
+-- a packet goes, and nothing else
+pub record Rest (s t : Side) : Type 0 where
+  pub missed : t .missed ≡ s .missed
+  pub stall : t .stall ≡ s .stall
+  pub stalled : t .stalled ≡ s .stalled
+  pub iso : t .iso ≡ s .iso
+  pub maxp : t .maxp ≡ s .maxp
+
+pub dropped-rest : (b : Bool) (s : Side) → Rest s (dropped b s)
+unfolding dropped
+dropped-rest b s = record { missed = refl; stall = refl; stalled = refl; iso = refl; maxp = refl }
+
+pub not-dropped : (s : Side) → dropped false s ≡ s
+unfolding dropped
+not-dropped s = rw (and-one (s .ready))
+
+-- endpoint 0's transmit side: "A written 1 sets TxPktRdy; a written 0 changes nothing", "SentStall .. cleared by a written 0"
+module _ (w : Csr0l) (s : Side) where
+  pub zero-ready-kept : w .«tx_pkt_rdy» ≡ false → zeroTxStored w s .ready ≡ s .ready
+  unfolding zeroTxStored
+  zero-ready-kept e = rw e (or-zero (s .ready))
+
+  pub zero-packet-kept : zeroTxStored w s .len ≡ s .len
+  unfolding zeroTxStored
+  zero-packet-kept = refl
+
+  pub zero-sent-cleared : w .«sent_stall» ≡ false → zeroTxStored w s .stalled ≡ false
+  unfolding zeroTxStored
+  zero-sent-cleared e = rw e (and-zero (s .stalled))
+
+-- SendStall is bit 4 of TXCSRL and bit 5 of RXCSRL, ClrDataTog bit 6 and bit 7: a `write` from zeros that sets the one or the other
+pub tx-stall-number : (s : Bool) → txcsrlNumber (txcsrlBits false false false false s false (not s)) ≡ cond s 16 64
+unfolding txcsrlNumber
+tx-stall-number true = refl
+tx-stall-number false = refl
+
+pub rx-stall-number : (s : Bool) → rxcsrlNumber (rxcsrlBits false false false false false s false (not s)) ≡ cond s 32 128
+unfolding rxcsrlNumber
+rx-stall-number true = refl
+rx-stall-number false = refl
+
+-- SendStall is bit 5 of CSR0L, ServicedRxPktRdy bit 6
+pub zero-stall-number : (s t : Bool) → csr0lNumber (csr0lBits false false false false false s t false) ≡ cond s 32 0 + cond t 64 0
+unfolding csr0lNumber
+zero-stall-number true true = refl
+zero-stall-number true false = refl
+zero-stall-number false true = refl
+zero-stall-number false false = refl
+
+-- a flush by `modify`, where UnderRun, SendStall and SentStall read 0: FlushFIFO, bit 3, with TxPktRdy and FIFONotEmpty if they stand
+pub tx-flush-number : (s : Side) → s .missed ≡ false → s .stall ≡ false → s .stalled ≡ false
+    → txcsrlNumber (txcsrlSet txcsrl.FlushFifo (txcsrlOf s)) ≡ cond (s .ready) 11 8
+unfolding txcsrlNumber txcsrlSet txcsrlOf
+tx-flush-number s a b c = rw (a, b, c) (go (s .ready))
+  where
+    go : (r : Bool) → _≡_ {A = ℕ} (cond r 1 0 + cond r 2 0 + 0 + 8 + 0 + 0 + 0) (cond r 11 8)
+    go true = refl
+    go false = refl
+
+-- both Serviced bits, 64 and 128, on top of what was read
+pub both-serviced : (w : Csr0l) → csr0lSet csr0l.ServicedBoth w .«serviced_setup_end» ≡ true
+unfolding csr0lSet
+both-serviced w = refl
+
+pub both-number : (w : Csr0l) → w .«serviced_rx_pkt_rdy» ≡ false → w .«serviced_setup_end» ≡ false
+    → csr0lNumber (csr0lSet csr0l.ServicedBoth w) ≡ csr0lNumber w + 192
+unfolding csr0lNumber csr0lSet
+both-number w a b = rw (a, b) (omega arith)
