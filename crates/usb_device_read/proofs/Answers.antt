@@ -14,8 +14,6 @@ use Rattle.record.specs.declared.Flags.{Flags}
 use Rattle.record.specs.declared.Record.{Record}
 use Rattle.record.specs.declared.Refusal.{Refusal}
 use Rattle.record.specs.declared.Refusal.the-variants.{WouldBlock}
-use Rattle.record.specs.Rows.{Replies}
-use Rattle.record.proofs.Rows as rows
 use Rattle.peek.specs.declared.Verdict.{Verdict}
 use Rattle.peek.specs.declared.Verdict.the-variants as verdict
 use Rattle.peek.specs.Peek.{rxCount, blocked}
@@ -23,8 +21,8 @@ use Rattle.read_zero.specs.declared.Got.the-variants.{Done, Refused}
 use Rattle.read_zero.specs.Read.{gotNumber, rxSize}
 use Rattle.read_tests.specs.Read.{waiting, tests}
 use Rattle.usb_device_read.specs.Read.{ReadOutcome, outcome, taken, refused, readBy, readIn, readCall}
-use Rattle.usb_device_read.specs.Replies.{readRows, Given}
-use Rattle.usb_device_read.proofs.Verdicts.{verdictNumber, meets, decides, rows-met, is-blocked}
+use Rattle.usb_device_read.specs.Replies.{Given}
+use Rattle.usb_device_read.proofs.Verdicts.{verdictNumber, meets, decides, is-blocked}
 
 -- "returns the packet's length"
 pub taken-done : (b : Board) (c : ControlState) (f : Flags) (size ep : ℕ) (x y : List ℕ) (g : Log) → taken b c f size ep x y g .answer ≡ Done (rxCount ep (g .regs))
@@ -50,10 +48,6 @@ module _ (k : Record) (ep : ℕ) (b f l : List ℕ) where
   replied = ap (λ (o : ReadOutcome). gotNumber (o .result .answer)) by-tests ∙ answered (tests k ep (length b) (length f) (length l))
 
   -- document 01, 'Reply numbers': "Given exactly when"
-  pub replies : Replies (gotNumber (readCall k ep b f l .result .answer)) (readRows k ep (length b) (length f) (length l))
-  replies = rows.exactly _ (rw replied (rows-met k ep (length b) (length f) (length l)))
-
-  -- and by cases
   pub exactly : (m : ℕ) → gotNumber (readCall k ep b f l .result .answer) ≡ m ↔ Given k ep (length b) (length f) (length l) m
   exactly m = (
     λ e. subst (λ (x : ℕ). Given k ep (length b) (length f) (length l) x) (sym replied ∙ e) (meets k ep (length b) (length f) (length l)),

@@ -1,66 +1,28 @@
 -- What the tests of a read come to: each verdict has its row's number, and one that is clear comes of a record that passes and of enough lent.
 -- Assumes nothing.
-use Prim.Native.Nat.{ℕ, _≤_, _<_}
+use Prim.Native.Nat.{ℕ, _≤_}
 use mathlib.Core.Path.{_≡_, refl, sym, ap, _∙_}
-use mathlib.Core.Logic.{_↔_, _⊎_}
-use mathlib.Core.Bool.{Bool, true, false, not, cond, _||_}
+use mathlib.Core.Bool.{Bool, true, false}
 use native.Mathlib.Omega.{arith}
-use lib.Dec.{leb, ltb, eqb}
-use Rattle.laws.proofs.Tests.{clash}
+use lib.Dec.{leb}
 use Rattle.board.specs.declared.Board.{Board}
-use Rattle.board.specs.declared.Direction.the-variants.{Out}
-use Rattle.regs.specs.Registers.{File, sideAt}
-use Rattle.control_state.specs.Numbers.{stateNumber}
+use Rattle.regs.specs.Registers.{File}
 use Rattle.control_state.specs.declared.ControlState.{ControlState}
-use Rattle.control_state.specs.declared.ControlStateEnum.{ControlStateEnum}
-use Rattle.control_state.specs.declared.ControlStateEnum.the-variants.{Idle, Setup, DataIn, DataOut, Accepted, NodataPhase}
 use Rattle.peek.specs.declared.Verdict.{Verdict}
 use Rattle.peek.specs.declared.Verdict.the-variants.{Clear, Blocked, Refused}
-use Rattle.peek.specs.Peek.{shortIn, short, rxPktRdy, rxCount, testsBy}
+use Rattle.peek.specs.Peek.{short, testsBy}
 use Rattle.peek.proofs.Lent.{lent-enough}
 use Rattle.record.specs.declared.Flags.{Flags}
 use Rattle.record.specs.declared.Record.{Record}
 use Rattle.record.specs.Record.{needIn, needOf, endpointsOf, passes, recordSound, refusalNumber, admissionBy}
-use Rattle.record.specs.Rows as of-rows
-use Rattle.record.proofs.Rows.{none-left, tested, tells-not, tells-under, tells-from, tells-is, tells-clear, tells-bad, tells-either, tells-both}
-use Rattle.read_tests.specs.Read as tests-of
-use Rattle.read_tests.specs.Read.{unreadableIn, notSetupIn, ownTests, ownTestsAt, testsIn, tests}
-use Rattle.usb_device_read.specs.Replies.{Unreadable, Unset, readRows, unready, notReadable, notSetup, Given, done, blocks, beyond, unreadable, unset, little, unsound}
+use Rattle.read_tests.specs.Read.{ownTests, ownTestsAt, testsIn, tests}
+use Rattle.usb_device_read.specs.Replies.{unready, notReadable, notSetup, Given, done, blocks, beyond, unreadable, unset, little, unsound}
 use Rattle.usb_device_read.proofs.Laws.{whole}
 
 abbrev pub verdictNumber : Verdict → ℕ
 verdictNumber Clear = 0
 verdictNumber Blocked = 6
 verdictNumber (Refused x) = refusalNumber x
-
--- the rows of 12 and 13, state by state
-other : {s t : ControlStateEnum} → (stateNumber s ≡ stateNumber t → ⊥) → s ≡ t → ⊥
-other n e = n (ap stateNumber e)
-
-unreadable-says : (s : ControlStateEnum) → unreadableIn s ≡ true ↔ Unreadable s
-unreadable-says Idle = (λ e. (other (λ z. omega arith), other (λ z. omega arith)), λ u. refl)
-unreadable-says Setup = (λ e. clash (sym e), λ u. absurd (u .0 refl))
-unreadable-says DataIn = (λ e. (other (λ z. omega arith), other (λ z. omega arith)), λ u. refl)
-unreadable-says DataOut = (λ e. clash (sym e), λ u. absurd (u .1 refl))
-unreadable-says Accepted = (λ e. (other (λ z. omega arith), other (λ z. omega arith)), λ u. refl)
-unreadable-says NodataPhase = (λ e. (other (λ z. omega arith), other (λ z. omega arith)), λ u. refl)
-
-eight : (len room : ℕ) → (not (eqb len 8) || ltb room 8) ≡ true ↔ ((len ≡ 8 → ⊥) ⊎ (room < 8))
-eight len room = tells-either (not (eqb len 8)) (ltb room 8) (tells-not (tells-is len 8)) (tells-under room 8)
-
-unset-says : (s : ControlStateEnum) (len room : ℕ) → notSetupIn s len room ≡ true ↔ Unset s len room
-unset-says s len room = (to s, from)
-  where
-    to : (s : ControlStateEnum) → notSetupIn s len room ≡ true → Unset s len room
-    to Idle e = clash (sym e)
-    to Setup e = (refl, eight len room .0 e)
-    to DataIn e = clash (sym e)
-    to DataOut e = clash (sym e)
-    to Accepted e = clash (sym e)
-    to NodataPhase e = clash (sym e)
-
-    from : Unset s len room → notSetupIn s len room ≡ true
-    from (e, u) = ap (λ (t : ControlStateEnum). notSetupIn t len room) e ∙ eight len room .1 u
 
 module _ (k : Record) (ep n f l : ℕ) where
   -- the six tests, as the rows of the table name them
@@ -93,40 +55,6 @@ module _ (k : Record) (ep n f l : ℕ) where
   decides (unset a s t u) = ap verdictNumber told ∙ rw (a .lent, a .passes, a .there, s, t, u)
   decides (little p) = ap verdictNumber told ∙ rw p
   decides (unsound p q) = ap verdictNumber told ∙ rw (p, q)
-
-  -- the rows, one test after the other
-  numbered : (a b c d e g : Bool)
-      → verdictNumber (testsBy (admissionBy a b c) (ownTests d e g)) ≡ cond a 15 (cond (not b) 16 (cond c 8 (cond d 6 (cond e 12 (cond g 13 0)))))
-  numbered true b c d e g = refl
-  numbered false false c d e g = refl
-  numbered false true true d e g = refl
-  numbered false true false true e g = refl
-  numbered false true false false true g = refl
-  numbered false true false false false true = refl
-  numbered false true false false false false = refl
-
-  says-short : short k f l ≡ true ↔ ((f < needOf k) ⊎ (l < 384))
-  unfolding short shortIn needOf
-  says-short = tells-either (ltb f (needOf k)) (ltb l 384) (tells-under f (needOf k)) (tells-under l 384)
-
-  says-ready : unready k ep ≡ true ↔ sideAt (k .regs .words) ep Out .ready ≡ false
-  unfolding rxPktRdy
-  says-ready = tells-clear (sideAt (k .regs .words) ep Out .ready)
-
-  says-unreadable : notReadable k ep ≡ true ↔ (ep ≡ 0) × Unreadable (k .«control_state» .state)
-  unfolding tests-of.notReadable
-  says-unreadable = tells-both (eqb ep 0) (unreadableIn (k .«control_state» .state)) (tells-is ep 0) (unreadable-says (k .«control_state» .state))
-
-  says-unset : notSetup k ep n ≡ true ↔ (ep ≡ 0) × Unset (k .«control_state» .state) (sideAt (k .regs .words) ep Out .len) n
-  unfolding tests-of.notSetup rxCount
-  says-unset =
-      tells-both (eqb ep 0) (notSetupIn (k .«control_state» .state) (sideAt (k .regs .words) ep Out .len) n) (tells-is ep 0)
-      (unset-says (k .«control_state» .state) (sideAt (k .regs .words) ep Out .len) n)
-
-  pub rows-met : of-rows.Given (verdictNumber (tests k ep n f l)) (readRows k ep n f l)
-  rows-met =
-      rw (told, numbered (short k f l) (recordSound k) (leb (endpointsOf k) ep) (unready k ep) (notReadable k ep) (notSetup k ep n))
-      (tested 15 _ _ _ says-short (tested 16 _ _ _ (tells-bad k) (tested 8 _ _ _ (tells-from (endpointsOf k) ep) (tested 6 _ _ _ says-ready (tested 12 _ _ _ says-unreadable (tested 13 _ _ _ says-unset none-left))))))
 
   -- enough is lent
   room : {m : ℕ} → Given k ep n f l m → m ≡ 0 → (recordSound k ≡ true) × (needOf k ≤ f) × (384 ≤ l)

@@ -14,16 +14,14 @@ use Rattle.record.specs.declared.Flags.{Flags}
 use Rattle.record.specs.declared.Record.{Record}
 use Rattle.record.specs.declared.Refusal.{Refusal}
 use Rattle.record.specs.declared.Refusal.the-variants.{WouldBlock}
-use Rattle.record.specs.Rows.{Replies}
-use Rattle.record.proofs.Rows as rows
 use Rattle.peek.specs.declared.Verdict.{Verdict}
 use Rattle.peek.specs.declared.Verdict.the-variants as verdict
 use Rattle.write_tests.specs.Write.{tests}
 use Rattle.write_zero.specs.declared.Wrote.the-variants.{Done, Refused}
 use Rattle.write_zero.specs.Write.{wroteNumber, txSize}
 use Rattle.usb_device_write.specs.Write.{Ran, WriteOutcome, outcome, refused, blockedCall, taken, writeBy, writeIn, writeCall}
-use Rattle.usb_device_write.specs.Replies.{writeRows, Given}
-use Rattle.usb_device_write.proofs.Verdicts.{verdictNumber, meets, decides, rows-met, is-blocked}
+use Rattle.usb_device_write.specs.Replies.{Given}
+use Rattle.usb_device_write.proofs.Verdicts.{verdictNumber, meets, decides, is-blocked}
 
 -- a packet that is taken is done, at whatever endpoint and in whatever state
 pub taken-done : (b : Board) (c : ControlState) (f : Flags) (t ep : ℕ) (bytes x : List ℕ) (g : Log) → taken b c f t ep bytes x g .answer ≡ Done (length bytes)
@@ -51,10 +49,6 @@ module _ (k : Record) (ep : ℕ) (b f l : List ℕ) where
   number = ap (λ (o : WriteOutcome). wroteNumber (o .result .answer)) call-is ∙ answered verdict-of
 
   -- document 01, 'Reply numbers': "Given exactly when"
-  pub replies : Replies (wroteNumber (writeCall k ep b f l .result .answer)) (writeRows k ep (length b) (length f) (length l))
-  replies = rows.exactly _ (rw number (rows-met k ep (length b) (length f) (length l)))
-
-  -- and by cases
   pub exactly : (m : ℕ) → wroteNumber (writeCall k ep b f l .result .answer) ≡ m ↔ Given k ep (length b) (length f) (length l) m
   exactly m = (
     λ e. subst (λ (x : ℕ). Given k ep (length b) (length f) (length l) x) (sym number ∙ e) (meets k ep (length b) (length f) (length l)),

@@ -3,59 +3,31 @@
 -- Assumes nothing.
 use Prim.Native.Nat.{ℕ, _≤_, _<_}
 use mathlib.Core.Path.{_≡_, refl, sym, ap, _∙_}
-use mathlib.Core.Logic.{_↔_, _⊎_, inl, inr}
-use mathlib.Core.Bool.{Bool, true, false, not, cond}
+use mathlib.Core.Bool.{Bool, true, false}
 use native.Mathlib.Omega.{arith}
-use borrow.Author.Tests.{ltb-false, eqb-false, ne-eqb, not-true}
-use lib.Dec.{leb, ltb, eqb}
-use Rattle.laws.proofs.Tests.{clash}
+use borrow.Author.Tests.{ltb-false}
+use lib.Dec.{leb}
 use Rattle.board.specs.declared.Board.{Board}
 use Rattle.board.specs.declared.Direction.the-variants.{In}
-use Rattle.regs.specs.Registers.{File, sideAt}
+use Rattle.regs.specs.Registers.{File}
 use Rattle.peek.specs.Peek.{shortIn, short, txPktRdy, testsBy}
 use Rattle.peek.specs.declared.Verdict.{Verdict}
 use Rattle.peek.specs.declared.Verdict.the-variants.{Clear, Blocked, Refused}
 use Rattle.peek.proofs.Lent.{enough}
 use Rattle.peek.proofs.Endings.{below-six}
 use Rattle.control_state.specs.declared.ControlState.{ControlState}
-use Rattle.control_state.specs.declared.ControlStateEnum.{ControlStateEnum}
-use Rattle.control_state.specs.declared.ControlStateEnum.the-variants.{Idle, Setup, DataIn, DataOut, Accepted, NodataPhase}
 use Rattle.record.specs.declared.Flags.{Flags}
 use Rattle.record.specs.declared.Record.{Record}
 use Rattle.record.specs.Record as of
-use Rattle.record.specs.Record.{areaIn, areaOf, needIn, needOf, endpointsIn, endpointsOf, recordSound, refusalNumber, admissionBy}
-use Rattle.record.specs.Rows as of-rows
-use Rattle.record.proofs.Rows.{none-left, tested, tells-under, tells-from, tells-is, tells-set, tells-bad, tells-either, tells-both}
+use Rattle.record.specs.Record.{areaIn, needIn, endpointsIn, endpointsOf, recordSound, refusalNumber, admissionBy}
 use Rattle.write_tests.specs.Write as write
-use Rattle.write_tests.specs.Write.{untakenIn, ownTests, ownTestsAt, testsIn, tests}
-use Rattle.usb_device_write.specs.Replies.{Untaken, writeRows, unready, tooLong, notWritable, Given, done, blocks, beyond, long, untaken, little, unsound}
+use Rattle.write_tests.specs.Write.{ownTests, ownTestsAt, testsIn, tests}
+use Rattle.usb_device_write.specs.Replies.{unready, tooLong, notWritable, Given, done, blocks, beyond, long, untaken, little, unsound}
 
 abbrev pub verdictNumber : Verdict → ℕ
 verdictNumber Clear = 0
 verdictNumber Blocked = 6
 verdictNumber (Refused x) = refusalNumber x
-
--- the row of 11, state by state
-some : (n : ℕ) → not (eqb n 0) ≡ true ↔ 0 < n
-some n = (λ e. let z : n ≡ 0 → ⊥ = eqb-false n 0 (not-true _ e) in omega arith, λ h. rw (ne-eqb n 0 (λ z. omega arith)))
-
-untaken-says : (s : ControlStateEnum) (n : ℕ) → untakenIn s n ≡ true ↔ Untaken s n
-untaken-says s n = (to s, from)
-  where
-    to : (s : ControlStateEnum) → untakenIn s n ≡ true → Untaken s n
-    to Idle e = inl (some n .0 e, inr refl)
-    to Setup e = inr (inl refl)
-    to DataIn e = clash (sym e)
-    to DataOut e = inr (inr (inl refl))
-    to Accepted e = inr (inr (inr refl))
-    to NodataPhase e = inl (some n .0 e, inl refl)
-
-    from : Untaken s n → untakenIn s n ≡ true
-    from (inl (h, inl e)) = ap (λ (t : ControlStateEnum). untakenIn t n) e ∙ some n .1 h
-    from (inl (h, inr e)) = ap (λ (t : ControlStateEnum). untakenIn t n) e ∙ some n .1 h
-    from (inr (inl e)) = ap (λ (t : ControlStateEnum). untakenIn t n) e
-    from (inr (inr (inl e))) = ap (λ (t : ControlStateEnum). untakenIn t n) e
-    from (inr (inr (inr e))) = ap (λ (t : ControlStateEnum). untakenIn t n) e
 
 module _ (k : Record) (ep n f l : ℕ) where
   -- the tests, one beside the other, as the rows name them
@@ -87,38 +59,6 @@ module _ (k : Record) (ep n f l : ℕ) where
   decides (untaken a s t u) = rw (tests-are, a .lent, a .passes, a .there, s, t, u)
   decides (little p) = rw (tests-are, p)
   decides (unsound p q) = rw (tests-are, p, q)
-
-  -- the rows, one test after the other
-  numbered : (a b c d e g : Bool)
-      → verdictNumber (testsBy (admissionBy a b c) (ownTests d e g)) ≡ cond a 15 (cond (not b) 16 (cond c 8 (cond d 6 (cond e 9 (cond g 11 0)))))
-  numbered true b c d e g = refl
-  numbered false false c d e g = refl
-  numbered false true true d e g = refl
-  numbered false true false true e g = refl
-  numbered false true false false true g = refl
-  numbered false true false false false true = refl
-  numbered false true false false false false = refl
-
-  says-short : short k f l ≡ true ↔ ((f < needOf k) ⊎ (l < 384))
-  unfolding short shortIn needOf
-  says-short = tells-either (ltb f (needOf k)) (ltb l 384) (tells-under f (needOf k)) (tells-under l 384)
-
-  says-ready : unready k ep ≡ true ↔ sideAt (k .regs .words) ep In .ready ≡ true
-  unfolding txPktRdy
-  says-ready = tells-set (sideAt (k .regs .words) ep In .ready)
-
-  says-long : tooLong k ep n ≡ true ↔ areaOf k ep In .size < n
-  unfolding write.tooLong areaOf
-  says-long = tells-under (areaOf k ep In .size) n
-
-  says-untaken : notWritable k ep n ≡ true ↔ (ep ≡ 0) × Untaken (k .«control_state» .state) n
-  unfolding write.notWritable
-  says-untaken = tells-both (eqb ep 0) (untakenIn (k .«control_state» .state) n) (tells-is ep 0) (untaken-says (k .«control_state» .state) n)
-
-  pub rows-met : of-rows.Given (verdictNumber (tests k ep n f l)) (writeRows k ep n f l)
-  rows-met =
-      rw (tests-are, numbered (short k f l) (recordSound k) (leb (endpointsOf k) ep) (unready k ep) (tooLong k ep n) (notWritable k ep n))
-      (tested 15 _ _ _ says-short (tested 16 _ _ _ (tells-bad k) (tested 8 _ _ _ (tells-from (endpointsOf k) ep) (tested 6 _ _ _ says-ready (tested 9 _ _ _ says-long (tested 11 _ _ _ says-untaken none-left))))))
 
   pub is-blocked : {m : ℕ} → Given k ep n f l m → m ≡ 6 → tests k ep n f l ≡ Blocked
   is-blocked (blocks a s) e = rw (tests-are, a .lent, a .passes, a .there, s)
