@@ -25,19 +25,8 @@ use Rattle.endpoints.specs.Endpoints.{Ask, blank}
 use Rattle.alloc_endpoint.specs.Allocate.{beyond, checkAt, passesAt, firstFrom, numbered, answerTo, allocate}
 use Rattle.endpoints.specs.Allocate.{overSize, lacks, taken, pick, checked}
 use Rattle.endpoints.specs.Numbers.{errorNumber, answerNumber}
-use Rattle.alloc_endpoint.specs.Replies.{Given}
+use Rattle.alloc_endpoint.specs.Replies.{Given, None, Lowest, Gives}
 use Rattle.endpoints.proofs.Answers.{clash, tested, number-tells}
-
--- none of the numbers from i up to e passes the test f
-abbrev pub None : (ℕ → Bool) → ℕ → ℕ → Type 0
-None f i e = (n : ℕ) → i ≤ n → n < e → f n ≡ false
-
--- n is the lowest of them that does
-pub record Lowest (f : ℕ → Bool) (i e n : ℕ) : Type 0 where
-  pub from : i ≤ n
-  pub below : n < e
-  pub passing : f n ≡ true
-  pub lower : None f i n
 
 -- what a search can come to
 data Search (f : ℕ → Bool) (i e : ℕ) : Answer → Type 0 where
@@ -72,13 +61,8 @@ module _ (t : List Row) (es : List EndpointData) (q : Ask) where
   search-from (suc k) i e h =
       step (passesAt t es q) i (passesAt t es q i) refl e (omega arith) (firstFrom t es q (suc i) k) (search-from k (suc i) e (omega arith))
 
-  -- which endpoint is given: the one that is wanted, or the lowest of 1 to 5 that passes
-  abbrev pub Gives : Wanted → ℕ → Type 0
-  Gives Any n = Lowest (passesAt t es q) 1 (length t) n
-  Gives (Number m) n = (n ≡ m) × (n < length t)
-
   data Outcome (w : Wanted) : Answer → Type 0 where
-    done : (n : ℕ) → Gives w n → Outcome w (Done n)
+    done : (n : ℕ) → Gives t es q w n → Outcome w (Done n)
     refused : (x : EndpointAllocError) → Given t es q x w → Outcome w (Refused x)
 
   searched : {a : Answer} → Search (passesAt t es q) 1 (length t) a → Outcome Any a
@@ -122,8 +106,8 @@ module _ (t : List Row) (es : List EndpointData) (q : Ask) where
       let h = tested (eqb n 0) (beyond t n) (taken (getD es n blank) (q .kind) (q .way)) (g .3) in
       rw (g .0, h .0, rw (g .0, h .0) at (g .1), rw (g .0, h .0) at (g .2), h .1)
 
-  to-gives : (w : Wanted) (n : ℕ) {a : Answer} → Outcome w a → a ≡ Done n → Gives w n
-  to-gives w n (done m g) e = let same : m ≡ n = cc in subst (λ (k : ℕ). Gives w k) same g
+  to-gives : (w : Wanted) (n : ℕ) {a : Answer} → Outcome w a → a ≡ Done n → Gives t es q w n
+  to-gives w n (done m g) e = let same : m ≡ n = cc in subst (λ (k : ℕ). Gives t es q w k) same g
   to-gives w n (refused x g) e = let z : _≡_ {A = ℕ} 0 1 = cc in absurd (omega arith)
 
   pub in-table : (w : Wanted) (n : ℕ) → answerTo t es q w ≡ Done n → n < length t
@@ -137,7 +121,7 @@ module _ (t : List Row) (es : List EndpointData) (q : Ask) where
       (λ e. to-row w x (outcome w) (number-tells (answerTo t es q w) x e), λ g. ap answerNumber (from-row w x g))
 
   -- what is given where none of them is
-  pub gives : (w : Wanted) (n : ℕ) → allocate t es q w .answer ≡ Done n → Gives w n
+  pub gives : (w : Wanted) (n : ℕ) → allocate t es q w .answer ≡ Done n → Gives t es q w n
   unfolding allocate
   gives w n e = to-gives w n (outcome w) e
 

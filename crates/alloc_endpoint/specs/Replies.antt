@@ -22,6 +22,17 @@ abbrev pub wantedAnd : List Row → (ℕ → Bool) → Wanted → Bool
 wantedAnd t f Any = false
 wantedAnd t f (Number n) = not (eqb n 0) && (not (beyond t n) && f n)
 
+-- none of the numbers from i up to e passes the test f
+abbrev pub None : (ℕ → Bool) → ℕ → ℕ → Type 0
+None f i e = (n : ℕ) → i ≤ n → n < e → f n ≡ false
+
+-- n is the lowest of them that does
+pub record Lowest (f : ℕ → Bool) (i e n : ℕ) : Type 0 where
+  pub from : i ≤ n
+  pub below : n < e
+  pub passing : f n ≡ true
+  pub lower : None f i n
+
 module _ (t : List Row) (es : List EndpointData) (q : Ask) where
   -- "no number wanted, and none of 1 to 5 passes the check"
   abbrev pub Row1 : Wanted → Type 0
@@ -51,3 +62,8 @@ module _ (t : List Row) (es : List EndpointData) (q : Ask) where
   Given MaxPacketSizeBiggerThanEpFifoSize w = (row2 w ≡ false) × (row5 w ≡ true)
   Given EpDirNotSupported w = (row2 w ≡ false) × (row5 w ≡ false) × (row3 w ≡ true)
   Given EpUsed w = (row2 w ≡ false) × (row5 w ≡ false) × (row3 w ≡ false) × (row4 w ≡ true)
+
+  -- which endpoint is given: the one that is wanted, or the lowest of 1 to 5 that passes
+  abbrev pub Gives : Wanted → ℕ → Type 0
+  Gives Any n = Lowest (passesAt t es q) 1 (length t) n
+  Gives (Number m) n = (n ≡ m) × (n < length t)

@@ -5,6 +5,7 @@ use mathlib.Core.Bool.{Bool, true, false, _||_}
 use mathlib.Core.Logic.{inl, inr}
 use mathlib.Core.List.{List, [], _∷_}
 use native.Mathlib.Omega.{arith}
+use native.Mathlib.Decide.{ℕ-discrete}
 use borrow.Author.Tests.{eq-eqb, ne-eqb, ltb-false, leb-true}
 use lib.Dec.{eqb, ltb, leb}
 use lib.ListN.{length, drop}
@@ -33,18 +34,15 @@ use Rattle.peek.specs.Peek.{short, testsBy, blocked as blockedAfter}
 use Rattle.peek.proofs.Lent.{lent-enough}
 use Rattle.record.specs.declared.Record.{Record}
 use Rattle.record.specs.declared.Admission.{Admission}
-use Rattle.record.specs.declared.Refusal.{Refusal}
-use Rattle.record.proofs.Rows.{Row, Given}
-use Rattle.record.specs.Record.{recordSound, refusalNumber, admissionBy, endpointsOf, withRegs, withEndpoints}
-use Rattle.usb_device_impl.specs.declared.Reply.{Reply}
-use Rattle.usb_device_impl.specs.declared.Reply.the-variants as reply
-use Rattle.usb_device_stall.specs.declared.Told.{Told}
-use Rattle.usb_device_stall.specs.declared.Told.the-variants as tells
+use Rattle.record.specs.Rows.{Row, Given, Replies}
+use Rattle.record.specs.Record.{recordSound, admissionBy, endpointsOf, withRegs, withEndpoints}
 use Rattle.usb_device_impl.specs.Calls as impl
 use Rattle.usb_device_alloc.specs.Calls as impl-alloc
 use Rattle.usb_device_stall.specs.Calls as impl-stall
+use Rattle.usb_device_impl.specs.Replies as simple-rows
 use Rattle.usb_device_impl.proofs.Replies as simple
 use Rattle.usb_device_reset.proofs.Replies as simple-reset
+use Rattle.usb_device_stall.specs.Replies as stall-rows
 use Rattle.usb_device_stall.proofs.Replies as simple-stall
 use Rattle.write_tests.specs.Write as write-call
 use Rattle.write_zero.specs.Write.{wroteNumber, txSize}
@@ -62,11 +60,8 @@ use Rattle.usb_device_interrupt.specs.Interrupt.{interruptBy, interruptCall}
 use Rattle.usb_device_poll.specs.Poll.{PollOutcome, outcomeOf, pollNumber, pollWhen, pollAdmitted, pollCall}
 use Rattle.usb_device_poll.proofs.Answers as polls
 use Rattle.host.specs.declared.Host.{Host}
-use Rattle.host.specs.declared.Happened.{Happened}
-use Rattle.host.specs.declared.Happened.the-variants as happens
-use Rattle.host.specs.declared.Taken.{Taken}
-use Rattle.host.specs.declared.Taken.the-variants as takes
 use Rattle.host.specs.Host as host
+use Rattle.host.specs.Replies as event-rows
 use Rattle.host.proofs.Replies as events
 use Rattle.calls.specs.Calls.{Op, allocEp, busInit, enable, reset, setDeviceAddress, write, read, setStalled, isStalled, poll, onInterrupt, forceReset, arrival, collection, busReset, suspend, resume, setupEnd, underrun, overrun, Outcome, called, told, allocated, written, fetched, polled, interrupted, happened, arrived, collected, outcome}
 use Rattle.calls.specs.Demand.{replies, allocReplies, among, noneLent, listLent, lent, unchanged, selected, Blocking, writing, reading}
@@ -81,51 +76,43 @@ pub data Ends (k : Record) (o : Op) (x : Outcome) : Type 0 where
 -- the numbers of a call's rows in their order, and 0
 abbrev numbers : List Row → List ℕ
 numbers [] = 0 ∷ []
-numbers (r ∷ rs) = refusalNumber (r .reply) ∷ numbers rs
+numbers (r ∷ rs) = r .number ∷ numbers rs
 
 or-right : (a : Bool) → (a || true) ≡ true
 or-right true = refl
 or-right false = refl
 
-zero-among : (rs : List Row) → among 0 (numbers rs) ≡ true
-zero-among [] = refl
-zero-among (r ∷ rs) = rw (zero-among rs) (or-right (eqb 0 (refusalNumber (r .reply))))
+given-among : (n : ℕ) (rs : List Row) → Given n rs → among n (numbers rs) ≡ true
+unfolding Given
+given-among n [] g = rw (eq-eqb n 0 g)
+given-among n (r ∷ rs) (inl g) = rw (eq-eqb n (r .number) (g .1))
+given-among n (r ∷ rs) (inr g) = rw (given-among n rs (g .1)) (or-right (eqb n (r .number)))
 
-given-among : (x : Refusal) (rs : List Row) → Given x rs → among (refusalNumber x) (numbers rs) ≡ true
-given-among x [] g = absurd g
-given-among x (r ∷ rs) (inl g) = rw (eq-eqb (refusalNumber x) (refusalNumber (r .reply)) (ap refusalNumber (sym (g .1))))
-given-among x (r ∷ rs) (inr g) = rw (given-among x rs (g .1)) (or-right (eqb (refusalNumber x) (refusalNumber (r .reply))))
-
--- a call whose replies are its rows', 6 not among them
+-- a call whose replies are its rows', 6 not among them: where it is refused, all is as it was
 module _ (k : Record) (o : Op) (rs : List Row) (is : numbers rs ≡ replies o) (no-six : among 6 (replies o) ≡ false) where
-  served : {x : Outcome} → x .reply ≡ 0 → Ends k o x
-  served p = done (rw (← is) (zero-among rs)) p
-
-  rejected : (y : Refusal) {x : Outcome} → Given y rs → x ≡ unchanged (refusalNumber y) k (lent o) → Ends k o x
-  rejected y g p =
-      let a : among (refusalNumber y) (replies o) ≡ true = rw (← is) (given-among y rs g) in
-      refused (refusalNumber y) (ne-eqb _ 6 (λ e. clash (sym a ∙ ap (λ (n : ℕ). among n (replies o)) e ∙ no-six))) a p
-
-  called-ends : (l : List ℕ) {a : impl.Outcome} → lent o ≡ listLent l → simple.Answers a k l rs → Ends k o (called a)
-  called-ends l {a} p t = go (a .call .answer) refl
+  by-rows : {x : Outcome} → Replies (x .reply) rs → ((x .reply ≡ 0 → ⊥) → x ≡ unchanged (x .reply) k (lent o)) → Ends k o x
+  by-rows {x} r left = go (ℕ-discrete (x .reply) 0)
     where
-      go : (y : Reply) → a .call .answer ≡ y → Ends k o (called a)
-      go reply.Done e = served (ap impl.replyNumber e)
-      go (reply.Refused y) e = rejected y (t .refusals y .0 e) (ap called (t .unchanged y e) ∙ ap (unchanged (refusalNumber y) k) (sym p))
+      told-among : among (x .reply) (replies o) ≡ true
+      told-among = rw (← is) (given-among (x .reply) rs (r (x .reply) .0 refl))
 
-  told-ends : (l : List ℕ) {b : Bool} {a : impl-stall.ToldOutcome} → lent o ≡ listLent l → simple-stall.Tells a k l rs b → Ends k o (told a)
-  told-ends l {b} {a} p t = go (a .call .answer) refl
-    where
-      go : (y : Told) → a .call .answer ≡ y → Ends k o (told a)
-      go (tells.Done c) e = served (ap impl-stall.toldNumber e)
-      go (tells.Refused y) e = rejected y (t .refusals y .0 e) (ap told (t .unchanged y e) ∙ ap (unchanged (refusalNumber y) k) (sym p))
+      go : Dec (x .reply ≡ 0) → Ends k o x
+      go (yes z) = done (rw (← z) told-among) z
+      go (no n) =
+          refused (x .reply) (ne-eqb _ 6 (λ e. clash (sym told-among ∙ ap (λ (m : ℕ). among m (replies o)) e ∙ no-six))) told-among (left n)
 
-  happened-ends : {a : Host} → lent o ≡ noneLent → events.Answers a k rs → Ends k o (happened a)
-  happened-ends {a} p t = go (a .answer) refl
-    where
-      go : (y : Happened) → a .answer ≡ y → Ends k o (happened a)
-      go happens.Done e = served (ap host.happenedNumber e)
-      go (happens.Refused y) e = rejected y (t .refusals y .0 e) (ap happened (t .unchanged y e) ∙ ap (unchanged (refusalNumber y) k) (sym p))
+  called-ends : (l : List ℕ) {a : impl.Outcome} → lent o ≡ listLent l → simple-rows.Answers a k l rs → Ends k o (called a)
+  called-ends l {a} p t =
+      by-rows (t .replies) (λ n. ap called (t .unchanged n) ∙ ap (unchanged (impl.replyNumber (a .call .answer)) k) (sym p))
+
+  told-ends : (l : List ℕ) {b : Bool} {a : impl-stall.ToldOutcome} → lent o ≡ listLent l → stall-rows.Tells a k l rs b → Ends k o (told a)
+  told-ends l {b} {a} p t =
+      by-rows (t .replies) (λ n. ap told (t .unchanged n) ∙ ap (unchanged (impl-stall.toldNumber (a .call .answer)) k) (sym p))
+
+  happened-ends : {a : Host} → lent o ≡ noneLent → event-rows.Answers a k rs → Ends k o (happened a)
+  happened-ends {a} p t =
+      by-rows (t .replies)
+      (λ n. ap (λ (q : Record). happened (record { answer = a .answer; «record» = q })) (t .unchanged n) ∙ ap (unchanged (host.happenedNumber (a .answer)) k) (sym p))
 
 -- the store that reply 6 has listed, and the endpoint that it has selected
 module _ (k : Record) (e : ℕ) (l : List ℕ) where
@@ -277,38 +264,30 @@ module _ (k : Record) where
       go false = refused 16 refl refl refl
 
   arrival-ends : (e : ℕ) (b f : List ℕ) → Ended (arrival e b f)
-  arrival-ends e b f = go (host.arrivalCall k e b f .event .answer) refl
-    where
-      go : (y : Happened) → host.arrivalCall k e b f .event .answer ≡ y → Ended (arrival e b f)
-      go happens.Done p = served k (arrival e b f) (events.arrivalRows k e (length b) (length f)) refl refl (ap host.happenedNumber p)
-      go (happens.Refused y) p =
-          let t = events.arrival k e b f in
-          rejected k (arrival e b f) (events.arrivalRows k e (length b) (length f)) refl refl y (t .event .refusals y .0 p)
-          (λ i. arrived (record { event = t .event .unchanged y p i; fifo = t .kept y p i }))
+  arrival-ends e b f =
+      let t = events.arrival k e b f in
+      by-rows k (arrival e b f) (event-rows.arrivalRows k e (length b) (length f)) refl refl (t .event .replies)
+      (λ n i. arrived (record { event = record { answer = host.arrivalCall k e b f .event .answer; «record» = t .event .unchanged n i }; fifo = t .kept n i }))
 
   collection-ends : (e : ℕ) (f : List ℕ) → Ended (collection e f)
-  collection-ends e f = go (host.collectionCall k e f .answer) refl
-    where
-      go : (y : Taken) → host.collectionCall k e f .answer ≡ y → Ended (collection e f)
-      go (takes.Done s n) p = served k (collection e f) (events.collectionRows k e (length f)) refl refl (ap host.takenNumber p)
-      go (takes.Refused y) p =
-          let t = events.collection k e f in
-          rejected k (collection e f) (events.collectionRows k e (length f)) refl refl y (t .refusals y .0 p)
-          (λ i. collected (record { answer = p i; «record» = t .unchanged y p i }))
+  collection-ends e f =
+      let t = events.collection k e f in
+      by-rows k (collection e f) (event-rows.collectionRows k e (length f)) refl refl (t .replies)
+      (λ n i. collected (record { answer = host.collectionCall k e f .answer; «record» = t .unchanged n i }))
 
   pub ends : (o : Op) → Ended o
-  ends (busInit l) = called-ends k (busInit l) (simple.listRows k l) refl refl l refl (simple.bus-init k l)
-  ends (enable l) = called-ends k (enable l) (simple.listRows k l) refl refl l refl (simple.enable k l)
-  ends (reset l) = called-ends k (reset l) (simple.listRows k l) refl refl l refl (simple-reset.reset k l)
-  ends (setDeviceAddress a l) = called-ends k (setDeviceAddress a l) (simple.addressRows k a l) refl refl l refl (simple.set-device-address k l a)
-  ends (setStalled e d s l) = called-ends k (setStalled e d s l) (simple.endpointRows k e l) refl refl l refl (simple-stall.set-stalled k l e d s)
-  ends (isStalled e d l) = told-ends k (isStalled e d l) (simple.endpointRows k e l) refl refl l refl (simple-stall.is-stalled k e d l)
-  ends busReset = happened-ends k busReset (events.plainRows k) refl refl refl (events.bus-reset k)
-  ends suspend = happened-ends k suspend (events.plainRows k) refl refl refl (events.suspend k)
-  ends resume = happened-ends k resume (events.plainRows k) refl refl refl (events.resume k)
-  ends setupEnd = happened-ends k setupEnd (events.plainRows k) refl refl refl (events.setup-end k)
-  ends (underrun e) = happened-ends k (underrun e) (events.missRows k e) refl refl refl (events.underrun k e)
-  ends (overrun e) = happened-ends k (overrun e) (events.missRows k e) refl refl refl (events.overrun k e)
+  ends (busInit l) = called-ends k (busInit l) (simple-rows.listRows k l) refl refl l refl (simple.bus-init k l)
+  ends (enable l) = called-ends k (enable l) (simple-rows.listRows k l) refl refl l refl (simple.enable k l)
+  ends (reset l) = called-ends k (reset l) (simple-rows.listRows k l) refl refl l refl (simple-reset.reset k l)
+  ends (setDeviceAddress a l) = called-ends k (setDeviceAddress a l) (simple-rows.addressRows k a l) refl refl l refl (simple.set-device-address k l a)
+  ends (setStalled e d s l) = called-ends k (setStalled e d s l) (simple-rows.endpointRows k e l) refl refl l refl (simple-stall.set-stalled k l e d s)
+  ends (isStalled e d l) = told-ends k (isStalled e d l) (simple-rows.endpointRows k e l) refl refl l refl (simple-stall.is-stalled k e d l)
+  ends busReset = happened-ends k busReset (event-rows.plainRows k) refl refl refl (events.bus-reset k)
+  ends suspend = happened-ends k suspend (event-rows.plainRows k) refl refl refl (events.suspend k)
+  ends resume = happened-ends k resume (event-rows.plainRows k) refl refl refl (events.resume k)
+  ends setupEnd = happened-ends k setupEnd (event-rows.plainRows k) refl refl refl (events.setup-end k)
+  ends (underrun e) = happened-ends k (underrun e) (event-rows.missRows k e) refl refl refl (events.underrun k e)
+  ends (overrun e) = happened-ends k (overrun e) (event-rows.missRows k e) refl refl refl (events.overrun k e)
   ends (arrival e b f) = arrival-ends e b f
   ends (collection e f) = collection-ends e f
   ends (write e b f l) = write-ends e b f l (writes.exactly k e b f l _ .0 refl)

@@ -61,6 +61,9 @@ eachKind f = map f (Control ∷ Isochronous ∷ Bulk ∷ Interrupt ∷ [])
 abbrev pub eachWay : (Direction → Case) → List Case
 eachWay f = map f (Out ∷ In ∷ [])
 
+abbrev pub each : (EndpointType → Direction → Case) → List Case
+each f = eachKind (λ k. f k Out) ++ eachKind (λ k. f k In)
+
 abbrev pub allocations : List Row → List Case
 allocations t =
     -- P1 and P2: "no number, bulk out, 64: endpoint 1", "then interrupt in, 64: endpoint 2"
@@ -72,8 +75,8 @@ allocations t =
     -- P6 to P8: "wanted 4, in, 65: 5", "same, 64: 3", "wanted 6: 2"
     ++ eachKind (λ k. case t (wants 4 k In 65 ∷ []) (reply 5 ∷ []))
     ++ eachKind (λ k. case t (wants 4 k In 64 ∷ []) (reply 3 ∷ []))
-    ++ eachKind (λ k. case t (wants 6 k In 64 ∷ []) (reply 2 ∷ []))
+    ++ each (λ k d. case t (wants 6 k d 64 ∷ []) (reply 2 ∷ []))
     -- P9: "wanted 0, size 65,535, twice: 0 each time"
-    ++ eachKind (λ k. case t (wants 0 k In 65535 ∷ wants 0 k In 65535 ∷ []) (done 0 ∷ done 0 ∷ []))
+    ++ each (λ k d. case t (wants 0 k d 65535 ∷ wants 0 k d 65535 ∷ []) (done 0 ∷ done 0 ∷ []))
     -- P10: "wanted 2, 64, interrupt in then out: both 2; then bulk: reply 4"
     ++ eachWay (λ d. case t (wants 2 Interrupt In 64 ∷ wants 2 Interrupt Out 64 ∷ wants 2 Bulk d 64 ∷ []) (done 2 ∷ done 2 ∷ reply 4 ∷ []))

@@ -3,16 +3,17 @@ use Prim.Native.Nat.{ℕ, zero, suc, _+_, _≤_}
 use mathlib.Core.Path.{_≡_, refl, ap, sym, _∙_}
 use native.Mathlib.Omega.{arith}
 use native.Mathlib.Nat.{le-trans}
-use lib.ListN.{getD, List·getD-eq-default}
+use lib.ListN.{length, getD, List·getD-eq-default}
 use Rattle.board.specs.declared.Row.{Row}
+use Rattle.board.specs.declared.Board.the-variants.{Display}
 use Rattle.board.specs.declared.Direction.{Direction}
 use Rattle.board.specs.declared.Direction.the-variants.{Out, In}
 use Rattle.board.specs.Table as table
 use Rattle.board.specs.Table.{none, roomOf, place, Disjoint}
-use Rattle.board.specs.Boards.{rows, at-most-six}
-use Rattle.board.proofs.Areas.{within, share-none, place-past}
+use Rattle.board.specs.Boards.{rows, rows-if-display, at-most-six}
+use Rattle.board.proofs.Areas.{within, share-none, place-past, display-total}
 use Rattle.record.specs.declared.Record.{Record}
-use Rattle.record.specs.Record.{areaIn, areaOf, needIn, needOf, sizesOf}
+use Rattle.record.specs.Record.{areaIn, areaOf, needIn, needOf, endpointsIn, endpointsOf, sizesOf}
 
 pub area-within : (k : Record) (e : ℕ) (d : Direction) → areaOf k e d .start + areaOf k e d .size ≤ needOf k
 unfolding areaIn areaOf needIn needOf
@@ -21,6 +22,15 @@ area-within k e d = within (rows (k .regs .board)) e d
 pub areas-apart : (k : Record) (e f : ℕ) (d c : Direction) → (place e d ≡ place f c → ⊥) → Disjoint (areaOf k e d) (areaOf k f c)
 unfolding areaIn areaOf
 areas-apart k e f d c n = share-none (rows (k .regs .board)) e f d c n
+
+-- document 01's numbers: "endpoint 6 or more" and "FIFO buffer under 1,664 bytes" are those of this board
+pub six-endpoints : (k : Record) → k .regs .board ≡ Display → endpointsOf k ≡ 6
+unfolding endpointsIn endpointsOf
+six-endpoints k e = ap length (rows-if-display (k .regs .board) e)
+
+pub need-1664 : (k : Record) → k .regs .board ≡ Display → needOf k ≡ 1664
+unfolding needIn needOf
+need-1664 k e = ap table.total (rows-if-display (k .regs .board) e) ∙ display-total
 
 -- past the last endpoint an area has no room
 no-room : (d : Direction) → roomOf none d ≡ 0

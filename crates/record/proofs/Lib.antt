@@ -1,3 +1,4 @@
 pub mod Areas
+pub mod Numbers
 pub mod Passing
 pub mod Rows

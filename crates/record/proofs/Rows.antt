@@ -1,108 +1,121 @@
--- Document 01's table of replies, read in its order: a call gives the first reply whose row holds. Assumes nothing.
-use Prim.Native.Nat.{ℕ}
-use mathlib.Core.Path.{_≡_, refl, sym}
+-- From a call's tests, made in their order, to the rows of document 01's table. Assumes nothing.
+use Prim.Native.Nat.{ℕ, _≤_, _<_}
+use mathlib.Core.Path.{_≡_, refl, sym, subst, _∙_}
 use mathlib.Core.Logic.{_↔_, _⊎_, inl, inr}
-use mathlib.Core.Bool.{Bool, true, false, not, cond}
+use mathlib.Core.Bool.{Bool, true, false, not, cond, _&&_, _||_}
 use mathlib.Core.List.{List, [], _∷_}
 use native.Mathlib.Omega.{arith}
+use borrow.Author.Tests.{ltb-true, lt-ltb, leb-true, le-leb, leb-false, lt-leb, eqb-true, eq-eqb, not-true}
+use lib.Dec.{ltb, leb, eqb}
+use Rattle.record.specs.declared.Record.{Record}
 use Rattle.record.specs.declared.Refusal.{Refusal}
-use Rattle.record.specs.declared.Refusal.the-variants.{NoSuchEndpoint, TooLittleLent, BadRecord}
 use Rattle.record.specs.declared.Admission.{Admission}
 use Rattle.record.specs.declared.Admission.the-variants.{Clear, Refused}
-use Rattle.record.specs.Record.{admissionBy}
-
--- a reply, and whether what its row says holds
-pub record Row : Type 0 where
-  pub reply : Refusal
-  pub holds : Bool
-
-abbrev pub row : Refusal → Bool → Row
-row x b = record { reply = x; holds = b }
-
-abbrev pub first : List Row → Admission
-first [] = Clear
-first (r ∷ rs) = cond (r .holds) (Refused (r .reply)) (first rs)
-
--- "Given exactly when": its row holds, and no earlier one does
-abbrev pub Given : Refusal → List Row → Type 0
-Given x [] = ⊥
-Given x (r ∷ rs) = ((r .holds ≡ true) × (r .reply ≡ x)) ⊎ ((r .holds ≡ false) × Given x rs)
-
--- no row holds
-abbrev pub None : List Row → Type 0
-None [] = Unit
-None (r ∷ rs) = (r .holds ≡ false) × None rs
+use Rattle.record.specs.Record.{recordSound, SoundRecord, refusalNumber, admissionBy}
+use Rattle.record.specs.Rows.{Row, row, Given, Replies}
+use Rattle.record.proofs.Passing.{record-is-sound, sound-record-passes}
 
 clash : {A : Type 0} → false ≡ true → A
 clash e = let z : _≡_ {A = ℕ} 0 1 = cc in absurd (omega arith)
 
+-- the rows give one number
+decided : (rs : List Row) {m n : ℕ} → Given m rs → Given n rs → m ≡ n
+unfolding Given
+decided [] g h = g ∙ sym h
+decided (r ∷ rs) (inl g) (inl h) = g .1 ∙ sym (h .1)
+decided (r ∷ rs) (inl g) (inr h) = absurd (h .0 (g .0))
+decided (r ∷ rs) (inr g) (inl h) = absurd (g .0 (h .0))
+decided (r ∷ rs) (inr g) (inr h) = decided rs (g .1) (h .1)
+
+pub exactly : {m : ℕ} (rs : List Row) → Given m rs → Replies m rs
+exactly rs g n = (λ e. subst (λ (i : ℕ). Given i rs) e g, λ h. decided rs g h)
+
+-- where no row is left
+pub none-left : Given 0 []
+unfolding Given
+none-left = refl
+
+-- one test more in front of the others: b tells whether its row holds
+pub tested : (m : ℕ) {A : Type 0} (n : ℕ) (rs : List Row) (b : Bool) → (b ≡ true ↔ A) → Given n rs → Given (cond b m n) (row m A ∷ rs)
+unfolding Given
+tested m n rs true t g = inl (t .0 refl, refl)
+tested m n rs false t g = inr (λ a. clash (t .1 a), g)
+
+-- what the tests tell
+pub tells-not : {b : Bool} {A : Type 0} → (b ≡ true ↔ A) → not b ≡ true ↔ (A → ⊥)
+tells-not {b} {A} t = (λ e a. clash (sym (not-true b e) ∙ t .1 a), λ n. go b refl n)
+  where
+    go : (c : Bool) → b ≡ c → (A → ⊥) → not c ≡ true
+    go true e n = absurd (n (t .0 e))
+    go false e n = refl
+
+pub tells-under : (a b : ℕ) → ltb a b ≡ true ↔ a < b
+tells-under a b = (ltb-true a b, lt-ltb a b)
+
+pub tells-from : (a b : ℕ) → leb a b ≡ true ↔ a ≤ b
+tells-from a b = (leb-true a b, le-leb a b)
+
+pub tells-over : (a b : ℕ) → not (leb a b) ≡ true ↔ b < a
+tells-over a b = (λ e. leb-false a b (not-true _ e), λ h. rw (lt-leb a b h))
+
+pub tells-set : (b : Bool) → b ≡ true ↔ b ≡ true
+tells-set b = (λ e. e, λ e. e)
+
+pub tells-clear : (b : Bool) → not b ≡ true ↔ b ≡ false
+tells-clear b = (not-true b, λ e. rw e)
+
+pub tells-bad : (k : Record) → not (recordSound k) ≡ true ↔ (SoundRecord k → ⊥)
+tells-bad k = tells-not (record-is-sound k, sound-record-passes k)
+
+-- two tests joined
+pub tells-either : (a b : Bool) {A B : Type 0} → (a ≡ true ↔ A) → (b ≡ true ↔ B) → (a || b) ≡ true ↔ (A ⊎ B)
+tells-either true b s t = (λ e. inl (s .0 refl), λ u. refl)
+tells-either false b {A} {B} s t = (λ e. inr (t .0 e), from)
+  where
+    from : A ⊎ B → b ≡ true
+    from (inl x) = clash (s .1 x)
+    from (inr y) = t .1 y
+
+pub tells-both : (a b : Bool) {A B : Type 0} → (a ≡ true ↔ A) → (b ≡ true ↔ B) → (a && b) ≡ true ↔ (A × B)
+tells-both true b s t = (λ e. (s .0 refl, t .0 e), λ u. t .1 (u .1))
+tells-both false b s t = (λ e. clash e, λ u. clash (s .1 (u .0)))
+
+pub tells-is : (a b : ℕ) → eqb a b ≡ true ↔ a ≡ b
+tells-is a b = (eqb-true a b, eq-eqb a b)
+
+-- document 01's number of what the tests came to
+abbrev pub admissionNumber : Admission → ℕ
+admissionNumber Clear = 0
+admissionNumber (Refused x) = refusalNumber x
+
+-- "Order: 15, 16, 8"
+pub numbered : (short passes beyond : Bool) → admissionNumber (admissionBy short passes beyond) ≡ cond short 15 (cond (not passes) 16 (cond beyond 8 0))
+numbered true p b = refl
+numbered false false b = refl
+numbered false true true = refl
+numbered false true false = refl
+
+-- the first tests alone: where memory is lent and an endpoint is named; where memory is lent; where an endpoint is named; where neither
+module _ (k : Record) where
+  pub first-all : (short beyond : Bool) {A B : Type 0} → (short ≡ true ↔ A) → (beyond ≡ true ↔ B)
+      → Given (admissionNumber (admissionBy short (recordSound k) beyond)) (row 15 A ∷ row 16 (SoundRecord k → ⊥) ∷ row 8 B ∷ [])
+  first-all short beyond s b = rw (numbered short (recordSound k) beyond) (tested 15 _ _ short s (tested 16 _ _ _ (tells-bad k) (tested 8 _ _ beyond b none-left)))
+
+  pub first-lent : (short : Bool) {A : Type 0} → (short ≡ true ↔ A)
+      → Given (admissionNumber (admissionBy short (recordSound k) false)) (row 15 A ∷ row 16 (SoundRecord k → ⊥) ∷ [])
+  first-lent short s = rw (numbered short (recordSound k) false) (tested 15 _ _ short s (tested 16 _ _ _ (tells-bad k) none-left))
+
+  pub first-named : (beyond : Bool) {B : Type 0} → (beyond ≡ true ↔ B)
+      → Given (admissionNumber (admissionBy false (recordSound k) beyond)) (row 16 (SoundRecord k → ⊥) ∷ row 8 B ∷ [])
+  first-named beyond b = rw (numbered false (recordSound k) beyond) (tested 16 _ _ _ (tells-bad k) (tested 8 _ _ beyond b none-left))
+
+  pub first-plain : Given (admissionNumber (admissionBy false (recordSound k) false)) (row 16 (SoundRecord k → ⊥) ∷ [])
+  first-plain = rw (numbered false (recordSound k) false) (tested 16 _ _ _ (tells-bad k) none-left)
+
+-- where the first tests refuse nothing, none of them holds
 unlike : {A : Type 0} {x : Refusal} → Refused x ≡ Clear → A
 unlike e = let z : _≡_ {A = ℕ} 0 1 = cc in absurd (omega arith)
 
-to-given : (x : Refusal) (rs : List Row) → first rs ≡ Refused x → Given x rs
-to-given x [] e = unlike (sym e)
-to-given x (r ∷ rs) e = go (r .holds) refl e (to-given x rs)
-  where
-    go : (b : Bool) → r .holds ≡ b → cond b (Refused (r .reply)) (first rs) ≡ Refused x → (first rs ≡ Refused x → Given x rs) → Given x (r ∷ rs)
-    go true h p later = inl (h, cc)
-    go false h p later = inr (h, later p)
-
-from-given : (x : Refusal) (rs : List Row) → Given x rs → first rs ≡ Refused x
-from-given x [] g = absurd g
-from-given x (r ∷ rs) (inl g) = rw (g .0, g .1)
-from-given x (r ∷ rs) (inr g) = rw (g .0) (from-given x rs (g .1))
-
-pub given-exactly : (x : Refusal) (rs : List Row) → first rs ≡ Refused x ↔ Given x rs
-given-exactly x rs = (to-given x rs, from-given x rs)
-
-to-none : (rs : List Row) → first rs ≡ Clear → None rs
-to-none [] e = tt
-to-none (r ∷ rs) e = go (r .holds) refl e (to-none rs)
-  where
-    go : (b : Bool) → r .holds ≡ b → cond b (Refused (r .reply)) (first rs) ≡ Clear → (first rs ≡ Clear → None rs) → None (r ∷ rs)
-    go true h p later = unlike p
-    go false h p later = (h, later p)
-
-from-none : (rs : List Row) → None rs → first rs ≡ Clear
-from-none [] n = refl
-from-none (r ∷ rs) n = rw (n .0) (from-none rs (n .1))
-
-pub clear-exactly : (rs : List Row) → first rs ≡ Clear ↔ None rs
-clear-exactly rs = (to-none rs, from-none rs)
-
--- the first tests, then a call's own
-abbrev pub then : Admission → Admission → Admission
-then (Refused x) own = Refused x
-then Clear own = own
-
-pub alone : (t : Admission) → t ≡ then t (first [])
-alone (Refused x) = refl
-alone Clear = refl
-
--- "Order: 15, 16, 8": where memory is lent and an endpoint named; where only the one or the other; and where neither
-module _ (own : List Row) where
-  pub rows-at : (short passes beyond : Bool)
-      → then (admissionBy short passes beyond) (first own) ≡ first (row TooLittleLent short ∷ row BadRecord (not passes) ∷ row NoSuchEndpoint beyond ∷ own)
-  rows-at true p b = refl
-  rows-at false false b = refl
-  rows-at false true true = refl
-  rows-at false true false = refl
-
-  pub rows-lent : (short passes : Bool) → then (admissionBy short passes false) (first own) ≡ first (row TooLittleLent short ∷ row BadRecord (not passes) ∷ own)
-  rows-lent true p = refl
-  rows-lent false false = refl
-  rows-lent false true = refl
-
-  pub rows-named : (passes beyond : Bool) → then (admissionBy false passes beyond) (first own) ≡ first (row BadRecord (not passes) ∷ row NoSuchEndpoint beyond ∷ own)
-  rows-named false b = refl
-  rows-named true true = refl
-  rows-named true false = refl
-
-  pub rows-plain : (passes : Bool) → then (admissionBy false passes false) (first own) ≡ first (row BadRecord (not passes) ∷ own)
-  rows-plain false = refl
-  rows-plain true = refl
-
--- where the first tests refuse nothing, none of them holds
 pub none-refused : (s p b : Bool) → admissionBy s p b ≡ Clear → (s ≡ false) × (p ≡ true) × (b ≡ false)
 none-refused true p b e = unlike e
 none-refused false false b e = unlike e

@@ -19,6 +19,7 @@ use Rattle.events.proofs.Others.{usb-clears, tx-clears, rx-clears}
 use Rattle.laws.specs.Lists.{numbers}
 use Rattle.record.specs.declared.Flags.{Flags}
 use Rattle.usb_device_interrupt.specs.declared.Snapshot.{Snapshot}
+use Rattle.usb_device_interrupt.specs.Taken.{Takes}
 use Rattle.usb_device_interrupt.specs.Interrupt.{snapshotOf, cleared, busTaken, raisedIf, endpointTaken, endpointsTaken, taken}
 
 -- one bit of what was read, added to a word
@@ -72,12 +73,6 @@ walked : (s : Snapshot) (f : Flags) (l : List ℕ) → Walked s f (foldl (endpoi
 unfolding endpointTaken
 walked s f [] = record { tx = refl; rx = refl; suspend = refl }
 walked s f (e ∷ l) = let w = walked s (endpointTaken s f e) l in record { tx = w .tx; rx = w .rx; suspend = w .suspend }
-
--- the flags of a board with so many endpoints, once the registers r were read
-pub record Takes (count : ℕ) (r : File) (f g : Flags) : Type 0 where
-  pub tx : (j : ℕ) → 1 ≤ j → j < count → bit (g .«ep_tx») j ≡ (bit (f .«ep_tx») j || bit (intrOf r In) j)
-  pub rx : (j : ℕ) → 1 ≤ j → j < count → bit (g .«ep_rx») j ≡ (bit (f .«ep_rx») j || bit (intrOf r Out) j)
-  pub suspend : g .suspend ≡ (f .suspend || bit (intrusb r) (busBit Suspend))
 
 pub takes : (count : ℕ) (r : File) (f : Flags) → Whole r → count ≤ 6 → Takes count r f (taken count (snapshotOf r) f)
 unfolding taken endpointsTaken busTaken snapshotOf

@@ -1,1 +1,3 @@
 pub mod Interrupt
+pub mod Replies
+pub mod Taken

@@ -1,3 +1,4 @@
 pub mod Round
 pub mod Poll
 pub mod Steps
+pub mod Replies

@@ -1,13 +1,18 @@
--- Which reply `reset` gives: the first of its rows that holds; and that a refused one changes nothing.
+-- Which reply `reset` gives: the number of the first of its rows that holds; and that a refused one changes nothing.
 -- Assumes nothing.
 use Prim.Native.Nat.{ℕ}
+use mathlib.Core.Bool.{false}
 use mathlib.Core.List.{List}
 use Rattle.record.specs.declared.Record.{Record}
-use Rattle.usb_device_reset.specs.Calls.{resetCall}
-use Rattle.usb_device_impl.proofs.Replies.{listRows, Answers, answers, lent}
+use Rattle.record.specs.Record.{recordSound, admissionBy}
+use Rattle.usb_device_impl.specs.Calls.{short, begun, idled}
+use Rattle.usb_device_impl.specs.Replies.{listRows, Answers}
+use Rattle.usb_device_impl.proofs.Replies.{answers, lent}
+use Rattle.usb_device_reset.specs.Calls.{resetStores, resetCall}
 
 -- the calls
 module _ (k : Record) (l : List ℕ) where
   pub reset : Answers (resetCall k l) k l (listRows k l)
   unfolding resetCall
-  reset = answers k l _ _ _ _ (lent k l)
+  reset =
+      answers k l (idled (k .«control_state»)) (resetStores k (begun k l)) (admissionBy (short l) (recordSound k) false) (listRows k l) (lent k l)

@@ -1,0 +1,17 @@
+-- What an interrupt that is taken does to the flags: it adds what the interrupt registers held, at every endpoint of the board.
+-- Assumes nothing.
+use Prim.Native.Nat.{ℕ, _≤_, _<_}
+use mathlib.Core.Path.{_≡_}
+use mathlib.Core.Bool.{_||_}
+use Rattle.laws.specs.Words.{bit}
+use Rattle.board.specs.declared.Direction.the-variants.{Out, In}
+use Rattle.regs.specs.Registers.{File, intrusb, intrOf}
+use Rattle.events.specs.declared.BusEvent.the-variants.{Suspend}
+use Rattle.events.specs.Events.{busBit}
+use Rattle.record.specs.declared.Flags.{Flags}
+
+-- g are the flags of a board with so many endpoints, once the registers r were read where the flags were f
+pub record Takes (count : ℕ) (r : File) (f g : Flags) : Type 0 where
+  pub tx : (j : ℕ) → 1 ≤ j → j < count → bit (g .«ep_tx») j ≡ (bit (f .«ep_tx») j || bit (intrOf r In) j)
+  pub rx : (j : ℕ) → 1 ≤ j → j < count → bit (g .«ep_rx») j ≡ (bit (f .«ep_rx») j || bit (intrOf r Out) j)
+  pub suspend : g .suspend ≡ (f .suspend || bit (intrusb r) (busBit Suspend))
