@@ -27,9 +27,9 @@ fn line_buffer() -> [u8; 8192]
     [0; 8192]
 }
 
-// A part of the report, and its only way out: the bytes are those that the report has at the place `done`, which moves past them. So what is written is
-// the report from its first byte on, nothing left out and nothing twice, and `put_report` says that it is all of it. (Which bytes a
-// call of the system writes no contract can say.)
+// The report's only way out: the bytes are those that the report has at the place `done`, and the place moves past them. One place goes through
+// all calls, from 0 to the report's length (`put_report`), so that the report is written from its first byte to its last and nothing twice.
+// What a call of the system then writes no contract can say.
 fn put(trace: &[u8], k: Record, first: &[u8; 1664], done: &mut usize, line: &[u8], len: usize)
     requires { ⌜ (len ≤ length (now line)) × (now done + len ≤ 1000000000) × Has (beginning k (now first)) (now trace) (now done) (take len (now line)) ⌝ }
     ensures { λ _. ⌜ now (done .exit) ≡ now (done .entry) + len ⌝ }
