@@ -1,14 +1,18 @@
 // Writes the report of a trace to standard output, a line at a time: the same memory for every trace.
-// No contract can speak of what is written. What is written last must complete the report: that is what `put_end` and `put_bad` ask.
+// Document 01: `musb-trace 1`, a line for each entry, and the last line.
 use board::Board;
 use record::Record;
 use trace::Came;
 ghost use mathlib.Core.Path.{_≡_};
-ghost use Prim.Native.Nat.{_≤_};
-ghost use lib.ListN.{length, replicate};
-ghost use Rattle.report.specs.Text.{endLine, badLine};
-ghost use Rattle.trace.specs.Report.{beginning};
-ghost use Rattle.trace.specs.Runs.{Completes};
+ghost use mathlib.Core.Bool.{true};
+ghost use Prim.Native.Nat.{_+_, _≤_};
+ghost use lib.ListN.{length, take, replicate};
+ghost use Rattle.board.specs.declared.Board.the-variants.{Display};
+ghost use Rattle.record.specs.Record.{freshRecord};
+ghost use Rattle.report.specs.Text.{header, endLine, badLine};
+ghost use Rattle.trace.specs.Report.{beginning, reportFor, reportOf};
+ghost use Rattle.trace.specs.Runs.{Has, Completes};
+ghost use Rattle.reporter.specs.Under.{Under};
 
 fn store_list() -> [u16; 384]
     ensures { λ r. ⌜ r ≡ replicate 384 0 ⌝ }
@@ -23,32 +27,39 @@ fn line_buffer() -> [u8; 8192]
     [0; 8192]
 }
 
-fn put(line: &[u8], len: usize)
-    requires { ⌜ len ≤ length (now line) ⌝ }
+// The report's only way out: the bytes are those that the report has at the place `done`, and the place moves past them. One place goes through
+// all calls, from 0 to the report's length (`put_report`), so that the report is written from its first byte to its last and nothing twice.
+// What a call of the system then writes no contract can say.
+fn put(trace: &[u8], k: Record, first: &[u8; 1664], done: &mut usize, line: &[u8], len: usize)
+    requires { ⌜ (len ≤ length (now line)) × (now done + len ≤ 1000000000) × Has (beginning k (now first)) (now trace) (now done) (take len (now line)) ⌝ }
+    ensures { λ _. ⌜ now (done .exit) ≡ now (done .entry) + len ⌝ }
 {
     io::write_all(1, &line[..len]);
+    *done += len;
 }
 
-fn put_header(line: &mut [u8])
-    requires { ⌜ 8192 ≤ length (now line) ⌝ }
-{
-    let len = report::header_line(line);
-    put(line, len);
-}
-
-// The last line: with the lines before it, it makes up the report from the record k and the FIFO memory that stood there at first.
-fn put_end(trace: &[u8], k: Record, first: &[u8; 1664], line: &mut [u8], count: u32)
-    requires { ⌜ (8192 ≤ length (now line)) × Completes (beginning k (now first)) (now trace) (endLine count) ⌝ }
+// The last line: it ends the report from the record k and the FIFO memory that stood there at first.
+fn put_end(
+    trace: &[u8],
+    k: Record,
+    first: &[u8; 1664],
+    done: &mut usize,
+    line: &mut [u8],
+    count: u32,
+)
+    requires { ⌜ (8192 ≤ length (now line)) × (now done ≤ 900000000) × Completes (beginning k (now first)) (now trace) (now done) (endLine count) ⌝ }
+    ensures { λ _. ⌜ now (done .exit) ≡ length (reportFor (beginning k (now (first .entry))) (now (trace .entry))) ⌝ }
 {
     let len = report::end_line(line, count);
-    put(line, len);
+    put(trace, k, first, done, line, len);
 }
 
-fn put_bad(trace: &[u8], k: Record, first: &[u8; 1664], line: &mut [u8], at: u32)
-    requires { ⌜ (8192 ≤ length (now line)) × Completes (beginning k (now first)) (now trace) (badLine at) ⌝ }
+fn put_bad(trace: &[u8], k: Record, first: &[u8; 1664], done: &mut usize, line: &mut [u8], at: u32)
+    requires { ⌜ (8192 ≤ length (now line)) × (now done ≤ 900000000) × Completes (beginning k (now first)) (now trace) (now done) (badLine at) ⌝ }
+    ensures { λ _. ⌜ now (done .exit) ≡ length (reportFor (beginning k (now (first .entry))) (now (trace .entry))) ⌝ }
 {
     let len = report::bad_line(line, at);
-    put(line, len);
+    put(trace, k, first, done, line, len);
 }
 
 pub fn least(a: usize, b: usize) -> usize
@@ -60,7 +71,14 @@ pub fn least(a: usize, b: usize) -> usize
     b
 }
 
-// The two lines under an entry's line, for comparing with the original: its stores and the record. The list holds 128 stores.
+// A line under an entry's line, only where it is asked for: the entry's stores, or the record after it.
+fn put_under(detail: bool, list: &[u16], stores: usize, k: Record, line: &[u8], len: usize)
+    requires { ⌜ (detail ≡ true) × (len ≤ length (now line)) × Under (now list) stores k (take len (now line)) ⌝ }
+{
+    io::write_all(1, &line[..len]);
+}
+
+// Both lines, for comparing with the original. The list holds 128 stores.
 fn put_details(detail: bool, list: &[u16], stores: usize, k: Record, line: &mut [u8])
     requires { ⌜ (384 ≤ length (now list)) × (8192 ≤ length (now line)) ⌝ }
 {
@@ -69,14 +87,15 @@ fn put_details(detail: bool, list: &[u16], stores: usize, k: Record, line: &mut 
     }
     let n = least(stores, 128);
     let a = details::stores_line(line, list, n);
-    put(line, a);
+    put_under(detail, list, n, k, line, a);
     let b = details::record_line(line, k);
-    put(line, b);
+    put_under(detail, list, n, k, line, b);
 }
 
-// The entries of a trace that is not too long, each with its line, and the last line.
-fn put_entries(trace: &[u8], detail: bool, start: Record, first: [u8; 1664])
-    requires { ⌜ length (now trace) ≤ 65536 ⌝ }
+// The entries of a trace that is not too long, each with its line, and the last line. The header is written.
+fn put_entries(trace: &[u8], detail: bool, start: Record, first: [u8; 1664], done: &mut usize)
+    requires { ⌜ (length (now trace) ≤ 65536) × (now done ≡ length header) ⌝ }
+    ensures { λ _. ⌜ now (done .exit) ≡ length (reportFor (beginning start first) (now (trace .entry))) ⌝ }
 {
     let mut k = start;
     let mut fifo = first;
@@ -89,36 +108,44 @@ fn put_entries(trace: &[u8], detail: bool, start: Record, first: [u8; 1664])
         let c = r.came;
         match c {
             Came::Line(len, past) => {
-                put(&line, len);
+                put(trace, start, &first, done, &line, len);
                 k = r.record;
                 put_details(detail, &list, r.stores, k, &mut line);
                 at = past;
                 count += 1;
             }
             Came::End => {
-                put_end(trace, start, &first, &mut line, count);
+                put_end(trace, start, &first, done, &mut line, count);
                 return;
             }
             Came::Bad => {
-                put_bad(trace, start, &first, &mut line, at as u32);
+                put_bad(trace, start, &first, done, &mut line, at as u32);
                 return;
             }
         }
     }
 }
 
-// The report of a trace that begins with a record and FIFO memory; with `detail`, its stores and the record under each entry's line.
-pub fn put_report(trace: &[u8], detail: bool, start: Record, first: [u8; 1664]) {
+// The report of a trace that begins with a record and FIFO memory; with `detail`, its stores and the record under each entry's line. It gives
+// the report's length, all of which it has written.
+pub fn put_report(trace: &[u8], detail: bool, start: Record, first: [u8; 1664]) -> usize
+    ensures { λ r. ⌜ r ≡ length (reportFor (beginning start first) (now (trace .entry))) ⌝ }
+{
     let mut line = line_buffer();
-    put_header(&mut line);
+    let mut done: usize = 0;
+    let len = report::header_line(&mut line);
+    put(trace, start, &first, &mut done, &line, len);
     if 65536 < trace.len() {
-        put_bad(trace, start, &first, &mut line, 65536);
-        return;
+        put_bad(trace, start, &first, &mut done, &mut line, 65536);
+        return done;
     }
-    put_entries(trace, detail, start, first);
+    put_entries(trace, detail, start, first, &mut done);
+    done
 }
 
 // The same of a fresh display.
-pub fn put_fresh(trace: &[u8], detail: bool) {
-    put_report(trace, detail, record::fresh(Board::Display), [0; 1664]);
+pub fn put_fresh(trace: &[u8], detail: bool) -> usize
+    ensures { λ r. ⌜ r ≡ length (reportOf (freshRecord Display) (now (trace .entry))) ⌝ }
+{
+    put_report(trace, detail, record::fresh(Board::Display), [0; 1664])
 }

@@ -3,9 +3,10 @@
 use Prim.Native.Nat.{ℕ, zero, suc, _+_, _-_, _≤_, _<_}
 use native.Mathlib.Omega.{arith}
 use mathlib.Core.Path.{_≡_, refl, sym, ap, _∙_}
-use mathlib.Core.List.{List, [], _++_, append-assoc}
+use mathlib.Core.List.{List, [], _++_, append-nil, append-assoc}
 use borrow.Author.Tests.{le-leb, lt-leb}
-use lib.ListN.{length, take}
+use lib.ListN.{length, take, drop, length-append}
+use lib.Seq.{take-append-seam, drop-at}
 use Rattle.report.specs.Text.{header, endLine, badLine}
 use Rattle.text.proofs.Appended.{front}
 use Rattle.entries.specs.declared.Entry.{Entry}
@@ -18,7 +19,7 @@ use Rattle.trace.specs.declared.Came.{Came}
 use Rattle.trace.specs.declared.Came.the-variants as came
 use Rattle.trace.specs.declared.Stepped.{Stepped}
 use Rattle.trace.specs.Report.{lineOf, reportBy, reportFrom, restOf, reportFor, StepOutcome, stepped, stepBy, stepOf}
-use Rattle.trace.specs.Runs.{Took, Reached, begins, goes, Completes}
+use Rattle.trace.specs.Runs.{Took, Reached, begins, goes, Has, Completes}
 
 -- how many entries are allowed does not matter where the bytes that are left are fewer
 enough : (m m′ : ℕ) (s : List ℕ) (at n : ℕ) (x : State) → at ≤ length s → length s < m + at → length s < m′ + at → reportFrom m s at n x ≡ reportFrom m′ s at n x
@@ -111,26 +112,45 @@ reached {s} (goes text at n x r f l after len past p t c) =
     reached p ∙ ap (λ (u : List ℕ). text ++ u) (step-line s at n x r f l (t .before) after (t .outcome) len past c (t .fits len past c))
     ∙ sym (append-assoc text (take len after) (restOf s past (suc n) (state (r .«record») f l)))
 
--- Every input of at most 65,536 bytes: the header, the lines that were written and the last line are the report.
-module _ (x₀ : State) (s : List ℕ) (short : length s ≤ 65536) {text : List ℕ} {at n : ℕ} {x : State} (p : Reached s x₀ text at n x) where
-  so-far : header ++ (text ++ restOf s at n x) ≡ reportFor x₀ s
+-- bytes of the report that stand after others
+there : (x : State) (s before bytes rest : List ℕ) {place : ℕ} → place ≡ length before → before ++ (bytes ++ rest) ≡ reportFor x s → Has x s place bytes
+there x s before bytes rest {place} n e = record {
+  stands = ap (λ (r : List ℕ). take (length bytes) (drop place r)) (sym e) ∙ ap (take (length bytes)) (drop-at before (bytes ++ rest) place (sym n))
+      ∙ take-append-seam bytes rest;
+}
+
+last-there : (x : State) (s before last : List ℕ) {place : ℕ} → place ≡ length before → before ++ last ≡ reportFor x s → Completes x s place last
+last-there x s before last {place} n e = record {
+  has = there x s before last [] n (ap (λ (t : List ℕ). before ++ t) (append-nil last) ∙ e);
+  whole = ap (λ (m : ℕ). m + length last) n ∙ sym (length-append before last) ∙ ap length e;
+}
+
+-- every report begins with the header
+pub begins-with : (x : State) (s : List ℕ) → Has x s 0 header
+unfolding reportFor
+begins-with x s = there x s [] header _ refl refl
+
+-- Every input of at most 65,536 bytes: a step's line is the report's next, after the header and the lines that were written; and so is the last.
+module _ (x₀ : State) (s : List ℕ) (short : length s ≤ 65536) {text : List ℕ} {at n : ℕ} {x : State} (p : Reached s x₀ text at n x) {place : ℕ} (here : place ≡ length (header ++ text)) where
+  so-far : (header ++ text) ++ restOf s at n x ≡ reportFor x₀ s
   unfolding reportFor
-  so-far = rw (le-leb _ _ short) (ap (λ (t : List ℕ). header ++ t) (sym (reached p)))
+  so-far = append-assoc header text (restOf s at n x) ∙ rw (le-leb _ _ short) (ap (λ (t : List ℕ). header ++ t) (sym (reached p)))
 
   module _ {r : Stepped} {f l after : List ℕ} (t : Took s at x r f l after) where
-    pub ended : r .came ≡ came.End → Completes x₀ s (endLine n)
-    ended c = record {
-      text = text;
-      report = ap (λ (u : List ℕ). header ++ (text ++ u)) (sym (step-end s at n x r f l (t .before) after (t .outcome) c)) ∙ so-far;
-    }
+    pub lined : (len past : ℕ) → r .came ≡ came.Line len past → Has x₀ s place (take len after)
+    lined len past c =
+        there x₀ s (header ++ text) (take len after) (restOf s past (suc n) (state (r .«record») f l)) here
+        (ap (λ (u : List ℕ). (header ++ text) ++ u) (sym (step-line s at n x r f l (t .before) after (t .outcome) len past c (t .fits len past c))) ∙ so-far)
 
-    pub stopped : r .came ≡ came.Bad → Completes x₀ s (badLine at)
-    stopped c = record {
-      text = text;
-      report = ap (λ (u : List ℕ). header ++ (text ++ u)) (sym (step-bad s at n x r f l (t .before) after (t .outcome) c)) ∙ so-far;
-    }
+    pub ended : r .came ≡ came.End → Completes x₀ s place (endLine n)
+    ended c = last-there x₀ s (header ++ text) (endLine n) here
+        (ap (λ (u : List ℕ). (header ++ text) ++ u) (sym (step-end s at n x r f l (t .before) after (t .outcome) c)) ∙ so-far)
+
+    pub stopped : r .came ≡ came.Bad → Completes x₀ s place (badLine at)
+    stopped c = last-there x₀ s (header ++ text) (badLine at) here
+        (ap (λ (u : List ℕ). (header ++ text) ++ u) (sym (step-bad s at n x r f l (t .before) after (t .outcome) c)) ∙ so-far)
 
 -- and every longer one
-pub too-long : (x : State) (s : List ℕ) → 65536 < length s → Completes x s (badLine 65536)
+pub too-long : (x : State) (s : List ℕ) → 65536 < length s → Completes x s (length header) (badLine 65536)
 unfolding reportFor
-too-long x s h = record { text = []; report = rw (lt-leb _ _ h) refl }
+too-long x s h = last-there x s header (badLine 65536) refl (rw (lt-leb _ _ h) refl)

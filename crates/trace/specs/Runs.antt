@@ -1,10 +1,9 @@
 -- What a program has written that steps through a trace: the lines of its steps, one after another.
 -- Assumes nothing.
-use Prim.Native.Nat.{ℕ, suc, _≤_}
+use Prim.Native.Nat.{ℕ, suc, _+_, _≤_}
 use mathlib.Core.Path.{_≡_}
 use mathlib.Core.List.{List, [], _++_}
-use lib.ListN.{length, take}
-use Rattle.report.specs.Text.{header}
+use lib.ListN.{length, take, drop}
 use Rattle.act.specs.Act.{State, state}
 use Rattle.trace.specs.declared.Came.the-variants.{Line}
 use Rattle.trace.specs.declared.Stepped.{Stepped}
@@ -23,7 +22,11 @@ pub data Reached (s : List ℕ) (x₀ : State) : List ℕ → ℕ → ℕ → St
   goes : (text : List ℕ) (at n : ℕ) (x : State) (r : Stepped) (f l after : List ℕ) (len past : ℕ) → Reached s x₀ text at n x → Took s at x r f l after
       → r .came ≡ Line len past → Reached s x₀ (text ++ take len after) past (suc n) (state (r .«record») f l)
 
--- `last`, after the lines that were written, makes up the report of the trace s from the state x on
-pub record Completes (x : State) (s last : List ℕ) : Type 0 where
-  pub text : List ℕ
-  pub report : header ++ (text ++ last) ≡ reportFor x s
+-- the report of the trace s from the state x on has these bytes at a place of it
+pub record Has (x : State) (s : List ℕ) (place : ℕ) (bytes : List ℕ) : Type 0 where
+  pub stands : take (length bytes) (drop place (reportFor x s)) ≡ bytes
+
+-- .. and they are its last
+pub record Completes (x : State) (s : List ℕ) (place : ℕ) (last : List ℕ) : Type 0 where
+  pub has : Has x s place last
+  pub whole : place + length last ≡ length (reportFor x s)

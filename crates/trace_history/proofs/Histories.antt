@@ -1,80 +1,216 @@
 -- A trace is a history of operations: what the demands say of every history they say of what the program does.
 -- Assumes nothing.
-use Prim.Native.Nat.{ℕ}
+use Prim.Native.Nat.{ℕ, zero, suc, _+_, _-_, _≤_}
+use native.Mathlib.Omega.{arith}
 use mathlib.Core.Path.{_≡_, refl, sym, ap, _∙_}
-use mathlib.Core.List.{List, [], _∷_, _++_, foldl, foldl-append}
+use mathlib.Core.List.{List, [], _∷_, _++_, foldl, foldl-append, append-nil, append-assoc}
+use borrow.Author.Tests.{le-leb}
+use lib.ListN.{length, take, length-append}
+use lib.Seq.{take-at}
 use Rattle.record.specs.declared.Record.{Record}
 use Rattle.arguments.specs.declared.BusEvent.the-variants as bus
 use Rattle.entries.specs.declared.Entry.{Entry}
 use Rattle.entries.specs.declared.Entry.the-variants.{Allocate, Init, Reset, Address, Write, Read, Stall, IsStalled, Poll, Interrupt, Enable, Arrival, Collect, Bus, SetupEnd, Underrun, Overrun}
-use Rattle.calls.specs.Calls as calls
-use Rattle.act.specs.Act.{State, acted, actedOn}
 use Rattle.entries.specs.declared.Parsed.{Parsed}
 use Rattle.entries.specs.declared.Parsed.the-variants.{Found, End, Bad}
 use Rattle.entries.specs.Entries.{entryAt}
+use Rattle.entries.proofs.Inside.{moves}
+use Rattle.calls.specs.Calls as calls
+use Rattle.report.specs.Text.{line, header}
+use Rattle.text.proofs.Appended.{front}
+use Rattle.act.specs.Act.{State, state, acted}
 use Rattle.trace.specs.declared.Came.the-variants.{Line}
 use Rattle.trace.specs.declared.Stepped.{Stepped}
-use Rattle.trace_history.specs.Operations.{operation}
-use Rattle.trace.specs.Report.{StepOutcome, stepped, stepBy, stepOf}
-use Rattle.trace.specs.Runs.{Reached, begins, goes}
+use Rattle.trace.specs.Report.{lineOf, reportBy, reportFrom, restOf, reportFor, StepOutcome, stepped, stepBy, stepOf}
+use Rattle.trace.specs.Runs.{Took, Reached, begins, goes}
 use Rattle.trace.proofs.Whole.{line-not-end, line-not-bad}
-
--- an entry gives the reply of its operation, and leaves its record
-pub record Same (s : List ℕ) (e : Entry) (k : Record) (f l : List ℕ) : Type 0 where
-  pub reply : actedOn s e k f l .reply ≡ calls.outcome k (operation s e f l) .reply
-  pub «record» : actedOn s e k f l .state .«record» ≡ calls.step k (operation s e f l)
+use Rattle.trace_history.specs.Operations.{operation}
+use Rattle.trace_history.specs.History.{entriesBy, entriesFrom, entriesOf, after, operationsFrom, operationsOf, lineFor, linesOf, lastBy, lastFrom, lastOf, Same, Along}
 
 pub same : (s : List ℕ) (e : Entry) (k : Record) (f l : List ℕ) → Same s e k f l
-same s (Allocate d w t n) k f l = record { reply = refl; «record» = refl }
-same s Init k f l = record { reply = refl; «record» = refl }
-same s Reset k f l = record { reply = refl; «record» = refl }
-same s (Address a) k f l = record { reply = refl; «record» = refl }
-same s (Write e start n) k f l = record { reply = refl; «record» = refl }
-same s (Read e n) k f l = record { reply = refl; «record» = refl }
-same s (Stall e d on) k f l = record { reply = refl; «record» = refl }
-same s (IsStalled e d) k f l = record { reply = refl; «record» = refl }
-same s Poll k f l = record { reply = refl; «record» = refl }
-same s Interrupt k f l = record { reply = refl; «record» = refl }
-same s Enable k f l = record { reply = refl; «record» = refl }
-same s (Arrival e start n) k f l = record { reply = refl; «record» = refl }
-same s (Collect e) k f l = record { reply = refl; «record» = refl }
-same s (Bus bus.Reset) k f l = record { reply = refl; «record» = refl }
-same s (Bus bus.Suspend) k f l = record { reply = refl; «record» = refl }
-same s (Bus bus.Resume) k f l = record { reply = refl; «record» = refl }
-same s SetupEnd k f l = record { reply = refl; «record» = refl }
-same s (Underrun e) k f l = record { reply = refl; «record» = refl }
-same s (Overrun e) k f l = record { reply = refl; «record» = refl }
+same s (Allocate d w t n) k f l = record { code-is = refl; reply = refl; values-are = refl; stores = refl; state-is = refl }
+same s Init k f l = record { code-is = refl; reply = refl; values-are = refl; stores = refl; state-is = refl }
+same s Reset k f l = record { code-is = refl; reply = refl; values-are = refl; stores = refl; state-is = refl }
+same s (Address a) k f l = record { code-is = refl; reply = refl; values-are = refl; stores = refl; state-is = refl }
+same s (Write e start n) k f l = record { code-is = refl; reply = refl; values-are = refl; stores = refl; state-is = refl }
+same s (Read e n) k f l = record { code-is = refl; reply = refl; values-are = refl; stores = refl; state-is = refl }
+same s (Stall e d on) k f l = record { code-is = refl; reply = refl; values-are = refl; stores = refl; state-is = refl }
+same s (IsStalled e d) k f l = record { code-is = refl; reply = refl; values-are = refl; stores = refl; state-is = refl }
+same s Poll k f l = record { code-is = refl; reply = refl; values-are = refl; stores = refl; state-is = refl }
+same s Interrupt k f l = record { code-is = refl; reply = refl; values-are = refl; stores = refl; state-is = refl }
+same s Enable k f l = record { code-is = refl; reply = refl; values-are = refl; stores = refl; state-is = refl }
+same s (Arrival e start n) k f l = record { code-is = refl; reply = refl; values-are = refl; stores = refl; state-is = refl }
+same s (Collect e) k f l = record { code-is = refl; reply = refl; values-are = refl; stores = refl; state-is = refl }
+same s (Bus bus.Reset) k f l = record { code-is = refl; reply = refl; values-are = refl; stores = refl; state-is = refl }
+same s (Bus bus.Suspend) k f l = record { code-is = refl; reply = refl; values-are = refl; stores = refl; state-is = refl }
+same s (Bus bus.Resume) k f l = record { code-is = refl; reply = refl; values-are = refl; stores = refl; state-is = refl }
+same s SetupEnd k f l = record { code-is = refl; reply = refl; values-are = refl; stores = refl; state-is = refl }
+same s (Underrun e) k f l = record { code-is = refl; reply = refl; values-are = refl; stores = refl; state-is = refl }
+same s (Overrun e) k f l = record { code-is = refl; reply = refl; values-are = refl; stores = refl; state-is = refl }
 
--- a step that wrote a line carried an entry out
-record CarriedOut (s : List ℕ) (x : State) (k : Record) : Type 0 where
-  entry : Entry
-  leaves : k ≡ acted s entry x .state .«record»
+-- an entry's operation, and its line
+abbrev its : List ℕ → Entry → State → calls.Op
+its s e x = operation s e (x .fifo) (x .list)
 
-carried-out : (s : List ℕ) (at : ℕ) (x : State) (r : Stepped) (f l before after : List ℕ) (len past : ℕ) → stepped r f l after ≡ stepOf s at x before → r .came ≡ Line len past
-    → CarriedOut s x (r .«record»)
-unfolding stepOf
-carried-out s at x r f l before after len past is c = go (entryAt s at) is
+module _ (s : List ℕ) (e : Entry) (x : State) where
+  leads-on : acted s e x .state ≡ after x (its s e x)
+  unfolding acted
+  leads-on = same s e (x .«record») (x .fifo) (x .list) .state-is
+
+  prints : lineOf e (acted s e x) ≡ lineFor x (its s e x)
+  unfolding acted lineOf
+  prints = let o = same s e (x .«record») (x .fifo) (x .list) in λ i. line (o .code-is i ∷ o .reply i ∷ o .values-are i)
+
+-- The report is the lines of the trace's operations, and the last line.
+reports : (m : ℕ) (s : List ℕ) (at n : ℕ) (x : State) → reportFrom m s at n x ≡ linesOf x (operationsFrom s (entriesFrom m s at) x) ++ lastFrom m s at n
+unfolding reportFrom entriesFrom lastFrom operationsFrom linesOf
+reports zero s at n x = refl
+reports (suc m) s at n x = go (entryAt s at) (λ past y. reports m s past (suc n) y)
   where
-    go : (p : Parsed) → stepped r f l after ≡ stepBy s x before p → CarriedOut s x (r .«record»)
-    go (Found e next) w = record { entry = e; leaves = ap (λ (o : StepOutcome). o .result .«record») w }
-    go End w = absurd (line-not-end (sym c ∙ ap (λ (o : StepOutcome). o .result .came) w))
-    go Bad w = absurd (line-not-bad (sym c ∙ ap (λ (o : StepOutcome). o .result .came) w))
+    go : (p : Parsed) → ((past : ℕ) (y : State) → reportFrom m s past (suc n) y ≡ linesOf y (operationsFrom s (entriesFrom m s past) y) ++ lastFrom m s past (suc n))
+        → reportBy (λ past y. reportFrom m s past (suc n) y) s at n x p
+        ≡ linesOf x (operationsFrom s (entriesBy (λ past. entriesFrom m s past) p) x) ++ lastBy (λ past. lastFrom m s past (suc n)) at n p
+    go (Found e past) rec =
+        (λ i. prints s e x i ++ reportFrom m s past (suc n) (leads-on s e x i))
+        ∙ ap (λ (t : List ℕ). lineFor x (its s e x) ++ t) (rec past (after x (its s e x)))
+        ∙ sym (append-assoc (lineFor x (its s e x)) (linesOf (after x (its s e x)) (operationsFrom s (entriesFrom m s past) (after x (its s e x)))) (lastFrom m s past (suc n)))
+    go End rec = refl
+    go Bad rec = refl
 
--- some operations lead from one record to the other
-pub record History (k₀ k : Record) : Type 0 where
-  pub operations : List calls.Op
-  pub leads : foldl calls.step k₀ operations ≡ k
+pub report-is : (x : State) (s : List ℕ) → length s ≤ 65536 → reportFor x s ≡ header ++ (linesOf x (operationsOf x s) ++ lastOf s)
+unfolding reportFor restOf entriesOf lastOf
+report-is x s short =
+    let all : length s - 0 ≡ length s = omega arith in
+    rw (le-leb _ _ short) (ap (λ (m : ℕ). header ++ reportFrom (suc m) s 0 0 x) all ∙ ap (λ (t : List ℕ). header ++ t) (reports (suc (length s)) s 0 0 x))
 
--- every record that the program reaches is the end of a history
-pub history : {s : List ℕ} {x₀ : State} {text : List ℕ} {at n : ℕ} {x : State} → Reached s x₀ text at n x → History (x₀ .«record») (x .«record»)
-unfolding acted
-history begins = record { operations = []; leads = refl }
-history {s} {x₀} (goes text at n x r f l after len past p t c) =
-    let h = history p in
-    let o = carried-out s at x r f l (t .before) after len past (t .outcome) c in
-    let op = operation s (o .entry) (x .fifo) (x .list) in
+-- an operation's record is that of a history
+step-is : (x : State) (o : calls.Op) → after x o .«record» ≡ calls.step (x .«record») o
+step-is x (calls.allocEp q w) = refl
+step-is x (calls.busInit l) = refl
+step-is x (calls.enable l) = refl
+step-is x (calls.reset l) = refl
+step-is x (calls.setDeviceAddress a l) = refl
+step-is x (calls.write e b f l) = refl
+step-is x (calls.read e b f l) = refl
+step-is x (calls.setStalled e d on l) = refl
+step-is x (calls.isStalled e d l) = refl
+step-is x (calls.poll l) = refl
+step-is x calls.onInterrupt = refl
+step-is x calls.forceReset = refl
+step-is x (calls.arrival e b f) = refl
+step-is x (calls.collection e f) = refl
+step-is x calls.busReset = refl
+step-is x calls.suspend = refl
+step-is x calls.resume = refl
+step-is x calls.setupEnd = refl
+step-is x (calls.underrun e) = refl
+step-is x (calls.overrun e) = refl
+
+-- the record that operations lead to, and their lines, one list after another
+records : (x : State) (os : List calls.Op) → foldl after x os .«record» ≡ foldl calls.step (x .«record») os
+records x [] = refl
+records x (o ∷ os) = records (after x o) os ∙ ap (λ (k : Record). foldl calls.step k os) (step-is x o)
+
+lines-append : (x : State) (os qs : List calls.Op) → linesOf x (os ++ qs) ≡ linesOf x os ++ linesOf (foldl after x os) qs
+unfolding linesOf
+lines-append x [] qs = refl
+lines-append x (o ∷ os) qs = ap (λ (t : List ℕ). lineFor x o ++ t) (lines-append (after x o) os qs) ∙ sym (append-assoc (lineFor x o) (linesOf (after x o) os) (linesOf (foldl after (after x o) os) qs))
+
+-- a step that wrote a line carried the entry out that stands there
+record CarriedOut (s : List ℕ) (at : ℕ) (x : State) (past : ℕ) (y : State) (text : List ℕ) : Type 0 where
+  entry : Entry
+  found : entryAt s at ≡ Found entry past
+  leaves : y ≡ acted s entry x .state
+  shows : text ≡ lineOf entry (acted s entry x)
+
+carried-out : (s : List ℕ) (at : ℕ) (x : State) (r : Stepped) (f l b : List ℕ) (len past : ℕ) → Took s at x r f l b → r .came ≡ Line len past
+    → CarriedOut s at x past (state (r .«record») f l) (take len b)
+unfolding stepOf
+carried-out s at x r f l b len past t c = go (entryAt s at) refl (t .outcome)
+  where
+    go : (p : Parsed) → entryAt s at ≡ p → stepped r f l b ≡ stepBy s x (t .before) p → CarriedOut s at x past (state (r .«record») f l) (take len b)
+    go (Found e next) q w =
+        let u = lineOf e (acted s e x) in
+        let is : Line len past ≡ Line (length u) next = sym c ∙ ap (λ (o : StepOutcome). o .result .came) w in
+        let size : len ≡ length u = cc in
+        let place : next ≡ past = cc in
+        record {
+          entry = e;
+          found = q ∙ ap (Found e) place;
+          leaves = λ j. state (w j .result .«record») (w j .fifo) (w j .list);
+          shows = front (record { count = size ∙ omega arith; bytes = ap (λ (o : StepOutcome). o .line) w }) (t .fits len past c);
+        }
+    go End q w = absurd (line-not-end (sym c ∙ ap (λ (o : StepOutcome). o .result .came) w))
+    go Bad q w = absurd (line-not-bad (sym c ∙ ap (λ (o : StepOutcome). o .result .came) w))
+
+-- the operations behind a program that stands at a place, and those before it
+record Between (s : List ℕ) (x₀ : State) (text : List ℕ) (at n : ℕ) (x : State) : Type 0 where
+  most : ℕ
+  fuel : most + n ≡ suc (length s)
+  behind : n ≤ at
+  inside : at ≤ length s
+  done : List calls.Op
+  all : operationsOf x₀ s ≡ done ++ operationsFrom s (entriesFrom most s at) x
+  count : length done ≡ n
+  leads : foldl after x₀ done ≡ x
+  lines : linesOf x₀ done ≡ text
+
+one-more : (s : List ℕ) (x₀ : State) (text : List ℕ) (at n : ℕ) (x : State) (past : ℕ) (y : State) (more : List ℕ) → Between s x₀ text at n x → CarriedOut s at x past y more
+    → Between s x₀ (text ++ more) past (suc n) y
+unfolding entriesFrom operationsFrom linesOf
+one-more s x₀ text at n x past y more b o = go (b .most) (b .fuel) (b .all)
+  where
+    op : calls.Op
+    op = its s (o .entry) x
+
+    to : y ≡ after x op
+    to = o .leaves ∙ leads-on s (o .entry) x
+
+    at-once : linesOf x (op ∷ []) ≡ more
+    at-once = append-nil (lineFor x op) ∙ sym (prints s (o .entry) x) ∙ sym (o .shows)
+
+    go : (m : ℕ) → m + n ≡ suc (length s) → operationsOf x₀ s ≡ b .done ++ operationsFrom s (entriesFrom m s at) x → Between s x₀ (text ++ more) past (suc n) y
+    go zero h e = absurd (omega (arith, h, b .behind, b .inside))
+    go (suc m) h e =
+        let v = moves s at (entryAt s at) refl (o .entry) past (o .found) in
+        record {
+          most = m;
+          fuel = omega (arith, h);
+          behind = omega (arith, b .behind, v .0);
+          inside = v .1;
+          done = b .done ++ (op ∷ []);
+          all = e ∙ (λ i. b .done ++ operationsFrom s (entriesBy (λ p. entriesFrom m s p) (o .found i)) x)
+              ∙ (λ i. b .done ++ (op ∷ operationsFrom s (entriesFrom m s past) (sym to i)))
+              ∙ sym (append-assoc (b .done) (op ∷ []) (operationsFrom s (entriesFrom m s past) y));
+          count = length-append (b .done) (op ∷ []) ∙ omega (arith, b .count);
+          leads = foldl-append after x₀ (b .done) (op ∷ []) ∙ ap (λ (z : State). after z op) (b .leads) ∙ sym to;
+          lines = lines-append x₀ (b .done) (op ∷ []) ∙ (λ i. b .lines i ++ linesOf (b .leads i) (op ∷ [])) ∙ ap (λ (t : List ℕ). text ++ t) at-once;
+        }
+
+between : {s : List ℕ} {x₀ : State} {text : List ℕ} {at n : ℕ} {x : State} → Reached s x₀ text at n x → Between s x₀ text at n x
+unfolding entriesOf linesOf
+between {s} begins = record {
+  most = suc (length s);
+  fuel = omega arith;
+  behind = omega arith;
+  inside = omega arith;
+  done = [];
+  all = refl;
+  count = refl;
+  leads = refl;
+  lines = refl;
+}
+between {s} {x₀} (goes text at n x r f l b len past p t c) =
+    one-more s x₀ text at n x past (state (r .«record») f l) (take len b) (between p) (carried-out s at x r f l b len past t c)
+
+-- Whatever the program has reached, the trace's own operations lead there, in order, and have printed what it wrote.
+pub along : {s : List ℕ} {x₀ : State} {text : List ℕ} {at n : ℕ} {x : State} → Reached s x₀ text at n x → Along s x₀ text n x
+along {s} {x₀} {text} {at} {n} {x} p =
+    let b = between p in
+    let first : take n (operationsOf x₀ s) ≡ b .done = ap (take n) (b .all) ∙ take-at (b .done) _ n (b .count) in
     record {
-      operations = h .operations ++ (op ∷ []);
-      leads = foldl-append calls.step (x₀ .«record») (h .operations) (op ∷ []) ∙ ap (λ (k : Record). calls.step k op) (h .leads)
-          ∙ sym (o .leaves ∙ same s (o .entry) (x .«record») (x .fifo) (x .list) .«record»);
+      count = ap length first ∙ b .count;
+      leads = ap (foldl after x₀) first ∙ b .leads;
+      lines = ap (linesOf x₀) first ∙ b .lines;
+      history = sym (records x₀ (take n (operationsOf x₀ s))) ∙ ap (λ (y : State). y .«record») (ap (foldl after x₀) first ∙ b .leads);
     }

@@ -1,6 +1,6 @@
 -- `reporter::put_entries` meets its contract.
 -- Assumes nothing.
-use Rattle.reporter.proofs.Reaching.{Stands, stands-first, stands-next, ends-here, stops-here, moved}
+use Rattle.reporter.proofs.Reaching.{Stands, stands-first, line-here, stands-next, ends-here, stops-here, moved}
 use Rattle.trace.specs.Report.{beginning}
 use denote.Ref.{now}
 use lib.ListN.{length}
@@ -12,11 +12,11 @@ use Rattle.reporter.proofs.put_entries.Statement.{statement}
 use Rattle.reporter.proofs.put_entries.Tie as tie
 
 abbrev Inv-loop : tie.InvT-loop
-Inv-loop trace detail start first k₀ fifo₀ list₀ line₀ at₀ count₀ k fifo list line at count =
-    (length fifo ≡ 1664) × (length list ≡ 384) × (length line ≡ 8192) × (count ≤ at) × (at ≤ length trace) × Stands (beginning start first) trace k fifo list at count
+Inv-loop trace detail start done₀ first k₀ fifo₀ list₀ line₀ at₀ count₀ done k fifo list line at count =
+    (length fifo ≡ 1664) × (length list ≡ 384) × (length line ≡ 8192) × (count ≤ at) × (at ≤ length trace) × Stands (beginning start first) trace k fifo list at count done
 
 abbrev μ-loop : tie.MeasureT-loop
-μ-loop trace detail start first k₀ fifo₀ list₀ line₀ at₀ count₀ k fifo list line at count = length trace - at
+μ-loop trace detail start done₀ first k₀ fifo₀ list₀ line₀ at₀ count₀ done k fifo list line at count = length trace - at
 
 store-list-requires : tie.Need-store-list-requires Inv-loop μ-loop
 store-list-requires c κs = search needs
@@ -25,7 +25,7 @@ line-buffer-requires : tie.Need-line-buffer-requires Inv-loop μ-loop
 line-buffer-requires c κs = search needs
 
 loop-holds : tie.Need-loop-holds Inv-loop μ-loop
-loop-holds c = (search needs, search needs, search needs, search needs, search needs, stands-first _ _ _ (c .before .store-list .ensures))
+loop-holds c = (search needs, search needs, search needs, search needs, search needs, stands-first _ _ _ (c .before .store-list .ensures) (c .before .before .before .pre .1))
 
 slice-aggregate-step : tie.Need-slice-aggregate-step Inv-loop μ-loop
 slice-aggregate-step c = search needs
@@ -47,9 +47,11 @@ slice-aggregate-put c = search needs
 
 put-requires : tie.Need-put-requires Inv-loop μ-loop
 put-requires c κs =
-    let l = c .before .before .before .before .before .before .before .before .before .before .before .loop in
-    let m = moved (now (c .before .before .before .before .before .before .before .before .before .before .before .before .before .before .before .args .trace)) (l .at) (l .line) (c .before .before .before .before .before .before .before .step .ensures .1) (c .before .before .c .given .1) in
-    omega (arith, m .0)
+    let l = c .before .before .before .before .before .before .before .before .before .before .before .before .before .loop in
+    let s = c .before .before .before .before .before .before .before .before .before .step .ensures in
+    let m = moved (now (c .before .before .before .before .before .before .before .before .before .before .before .before .before .before .before .before .before .args .trace)) (l .at) (l .line) (s .1) (c .before .before .before .before .c .given .1) in
+    let p = c .before .before .before .before .before .before .before .before .before .before .before .before .before .before .before .before .before .pre in
+    (omega (arith, m .0), omega (arith, m .0, l .inv .2, l .inv .3, l .inv .4, l .inv .5 .small, p .0), line-here _ _ _ _ _ _ _ _ (l .inv .5) (l .line) (s .0) (s .1) (p .0) _ _ (c .before .before .before .before .c .given .1))
 
 slice-aggregate-put-details : tie.Need-slice-aggregate-put-details Inv-loop μ-loop
 slice-aggregate-put-details c = search needs
@@ -62,21 +64,22 @@ put-details-requires c κs = search needs
 
 add-count : tie.Need-add-count Inv-loop μ-loop
 add-count c =
-    let i = c .before .before .before .before .before .before .before .before .before .before .before .before .before .before .before .before .before .loop .inv in
-    omega (arith, i .3, i .4, c .before .before .before .before .before .before .before .before .before .before .before .before .before .before .before .before .before .before .before .before .before .pre)
+    let i = c .before .before .before .before .before .before .before .before .before .before .before .before .before .before .before .before .before .before .before .loop .inv in
+    omega (arith, i .3, i .4, c .before .before .before .before .before .before .before .before .before .before .before .before .before .before .before .before .before .before .before .before .before .before .before .pre .0)
 
 loop-less : tie.Need-loop-less Inv-loop μ-loop
 loop-less c =
-    let l = c .before .before .before .before .before .before .before .before .before .before .before .before .before .before .before .before .before .loop in
-    let m = moved (now (c .before .before .before .before .before .before .before .before .before .before .before .before .before .before .before .before .before .before .before .before .before .args .trace)) (l .at) (l .line) (c .before .before .before .before .before .before .before .before .before .before .before .before .before .step .ensures .1) (c .before .before .before .before .before .before .before .before .c .given .1) in
+    let l = c .before .before .before .before .before .before .before .before .before .before .before .before .before .before .before .before .before .before .before .loop in
+    let s = c .before .before .before .before .before .before .before .before .before .before .before .before .before .before .before .step .ensures in
+    let m = moved (now (c .before .before .before .before .before .before .before .before .before .before .before .before .before .before .before .before .before .before .before .before .before .before .before .args .trace)) (l .at) (l .line) (s .1) (c .before .before .before .before .before .before .before .before .before .before .c .given .1) in
     omega (arith, m .1, m .2)
 
 loop-again : tie.Need-loop-again Inv-loop μ-loop
 loop-again c =
-    let l = c .before .before .before .before .before .before .before .before .before .before .before .before .before .before .before .before .before .loop in
-    let s = c .before .before .before .before .before .before .before .before .before .before .before .before .before .step .ensures in
-    let m = moved (now (c .before .before .before .before .before .before .before .before .before .before .before .before .before .before .before .before .before .before .before .before .before .args .trace)) (l .at) (l .line) (s .1) (c .before .before .before .before .before .before .before .before .c .given .1) in
-    (search needs, search needs, search needs, omega (arith, l .inv .3, m .1), m .2, stands-next _ _ _ _ _ _ _ (l .inv .5) (l .line) (s .0) (s .1) _ _ (c .before .before .before .before .before .before .before .before .c .given .1))
+    let l = c .before .before .before .before .before .before .before .before .before .before .before .before .before .before .before .before .before .before .before .loop in
+    let s = c .before .before .before .before .before .before .before .before .before .before .before .before .before .before .before .step .ensures in
+    let m = moved (now (c .before .before .before .before .before .before .before .before .before .before .before .before .before .before .before .before .before .before .before .before .before .before .before .args .trace)) (l .at) (l .line) (s .1) (c .before .before .before .before .before .before .before .before .before .before .c .given .1) in
+    (search needs, search needs, search needs, omega (arith, l .inv .3, m .1), m .2, stands-next _ _ _ _ _ _ _ _ (l .inv .5) (l .line) (s .0) (s .1) _ _ (c .before .before .before .before .before .before .before .before .before .before .c .given .1) (omega (arith, m .0)) (omega (arith, m .0, l .inv .2)) (c .before .before .before .before .before .put .ensures))
 
 enum-told : tie.Need-enum-told Inv-loop μ-loop
 enum-told c = search needs
@@ -86,9 +89,10 @@ slice-aggregate-put-end c = search needs
 
 put-end-requires : tie.Need-put-end-requires Inv-loop μ-loop
 put-end-requires c κs =
-    let l = c .before .before .before .before .before .before .before .before .before .before .before .loop in
-    let s = c .before .before .before .before .before .before .before .step .ensures in
-    (search needs, ends-here _ _ _ _ _ _ _ (l .inv .5) (l .line) (s .0) (s .1) (c .before .before .before .before .before .before .before .before .before .before .before .before .before .before .before .pre) (c .before .before .enum-told .given .1))
+    let l = c .before .before .before .before .before .before .before .before .before .before .before .before .loop in
+    let s = c .before .before .before .before .before .before .before .before .step .ensures in
+    let p = c .before .before .before .before .before .before .before .before .before .before .before .before .before .before .before .before .pre in
+    (search needs, omega (arith, l .inv .3, l .inv .4, l .inv .5 .small, p .0), ends-here _ _ _ _ _ _ _ _ (l .inv .5) (l .line) (s .0) (s .1) (p .0) (c .before .before .before .enum-told .given .1))
 
 returns : tie.Need-returns Inv-loop μ-loop
 returns c = search needs
@@ -104,9 +108,10 @@ cast-put-bad c = search needs
 
 put-bad-requires : tie.Need-put-bad-requires Inv-loop μ-loop
 put-bad-requires c κs =
-    let l = c .before .before .before .before .before .before .before .before .before .before .before .loop in
-    let s = c .before .before .before .before .before .before .before .step .ensures in
-    (search needs, stops-here _ _ _ _ _ _ _ (l .inv .5) (l .line) (s .0) (s .1) (c .before .before .before .before .before .before .before .before .before .before .before .before .before .before .before .pre) (c .before .before .enum-told2 .given .1))
+    let l = c .before .before .before .before .before .before .before .before .before .before .before .before .loop in
+    let s = c .before .before .before .before .before .before .before .before .step .ensures in
+    let p = c .before .before .before .before .before .before .before .before .before .before .before .before .before .before .before .before .pre in
+    (search needs, omega (arith, l .inv .3, l .inv .4, l .inv .5 .small, p .0), stops-here _ _ _ _ _ _ _ _ (l .inv .5) (l .line) (s .0) (s .1) (p .0) (c .before .before .before .enum-told2 .given .1))
 
 returns-2 : tie.Need-returns-2 Inv-loop μ-loop
 returns-2 c = search needs

@@ -1,6 +1,8 @@
 -- `reporter::put_report` meets its contract.
 -- Assumes nothing.
-use Rattle.trace.proofs.Whole.{too-long}
+use Rattle.trace.proofs.Whole.{begins-with}
+use Rattle.reporter.proofs.Reaching.{from-front, too-long-here}
+use native.Mathlib.Omega.{arith}
 use borrow.Author.Needs.{needs}
 use Rattle.reporter.proofs.put_report.Statement.{statement}
 use Rattle.reporter.proofs.put_report.Tie as tie
@@ -8,17 +10,28 @@ use Rattle.reporter.proofs.put_report.Tie as tie
 line-buffer-requires : tie.Need-line-buffer-requires
 line-buffer-requires c κs = search needs
 
-slice-aggregate-put-header : tie.Need-slice-aggregate-put-header
-slice-aggregate-put-header c = search needs
+slice-aggregate-header-line : tie.Need-slice-aggregate-header-line
+slice-aggregate-header-line c = search needs
 
-put-header-requires : tie.Need-put-header-requires
-put-header-requires c κs = search needs
+header-line-requires : tie.Need-header-line-requires
+header-line-requires c κs = search needs
+
+slice-aggregate-put : tie.Need-slice-aggregate-put
+slice-aggregate-put c = search needs
+
+put-requires : tie.Need-put-requires
+put-requires c κs =
+    let e = c .before .before .before .before .header-line .ensures in
+    (search needs, omega (arith, e .1), from-front _ _ _ (e .0) (omega (arith, e .1, c .before .before .before .before .before .before .line-buffer .ensures)) (begins-with _ _))
 
 slice-aggregate-put-bad : tie.Need-slice-aggregate-put-bad
 slice-aggregate-put-bad c = search needs
 
 put-bad-requires : tie.Need-put-bad-requires
-put-bad-requires c κs = (search needs, too-long _ _ (c .before .before .if1 .taken))
+put-bad-requires c κs =
+    let e = c .before .before .before .before .before .before .before .before .before .header-line .ensures in
+    let d = c .before .before .before .before .put .ensures in
+    (search needs, omega (arith, e .1, d), too-long-here _ _ (e .0) d (c .before .before .before .if1 .taken))
 
 returns : tie.Need-returns
 returns c = search needs
@@ -34,8 +47,10 @@ put-report-spec =
     tie.close
     (tie.spec
     line-buffer-requires
-    slice-aggregate-put-header
-    put-header-requires
+    slice-aggregate-header-line
+    header-line-requires
+    slice-aggregate-put
+    put-requires
     slice-aggregate-put-bad
     put-bad-requires
     returns
