@@ -13,13 +13,13 @@ use Rattle.csr.specs.declared.Csr0lSet.{Csr0lSet}
 use Rattle.csr.specs.declared.TxcsrlSet.{TxcsrlSet}
 use Rattle.csr.specs.declared.RxcsrlSet.{RxcsrlSet}
 use Rattle.csr.specs.declared.RxcsrlSet.the-variants.{NoOverRun}
-use Rattle.regs.specs.declared.Regs.{Regs}
-use Rattle.stores.specs.Stores.{Log, log, modifyCsr0l, modifyTxcsrl, modifyRxcsrl}
-use Rattle.regs.specs.Control.{csr0lRead, txcsrlRead, rxcsrlRead}
+use Rattle.register_file.specs.declared.Regs.{Regs}
+use Rattle.store_rules.specs.Stores.{Log, log, modifyCsr0l, modifyTxcsrl, modifyRxcsrl}
+use Rattle.register_file.specs.Control.{csr0lRead, txcsrlRead, rxcsrlRead}
 use Rattle.csr.specs.Control.{csr0lSet, txcsrlSet, rxcsrlSet}
-use Rattle.stores.specs.Promise.{Store, csr0l, txcsrl, rxcsrl}
-use Rattle.stores.proofs.Promises.{modify-csr0l, modify-txcsrl, modify-rxcsrl}
-use Rattle.stores.proofs.Halts.{tx-modified, rx-modified}
+use Rattle.store_rules.specs.Promise.{Store, csr0l, txcsrl, rxcsrl}
+use Rattle.store_rules.proofs.Promises.{modify-csr0l, modify-txcsrl, modify-rxcsrl}
+use Rattle.store_rules.proofs.Halts.{tx-modified, rx-modified}
 use Rattle.record.specs.declared.Flags.{Flags}
 use Rattle.record.specs.declared.Record.{Record}
 use Rattle.record.specs.declared.Admission.the-variants.{Clear}

@@ -19,10 +19,10 @@ use Rattle.csr.specs.declared.RxcsrlSet.the-variants as rx-set
 use Rattle.csr.specs.Control.{csr0lBits, txcsrlBits, rxcsrlBits}
 use Rattle.csr.proofs.AsWritten as written
 use Rattle.csr.proofs.Modified.{rx-read, rx-flushed}
-use Rattle.regs.specs.Registers.{File, enabledOf, chosen}
-use Rattle.stores.specs.Stores.{Log, writeIndex, modifyCsr0l, modifyRxcsrl, modifyIntre}
-use Rattle.stores.specs.Promise.{index, csr0l, csr0h, txcsrl, iso, maxp, intre}
-use Rattle.stores.proofs.Promises.{modify-csr0l, modify-txcsrl, modify-rxcsrl, modify-intre}
+use Rattle.register_file.specs.Registers.{File, enabledOf, chosen}
+use Rattle.store_rules.specs.Stores.{Log, writeIndex, modifyCsr0l, modifyRxcsrl, modifyIntre}
+use Rattle.store_rules.specs.Promise.{index, csr0l, csr0h, txcsrl, iso, maxp, intre}
+use Rattle.store_rules.proofs.Promises.{modify-csr0l, modify-txcsrl, modify-rxcsrl, modify-intre}
 use Rattle.endpoints.specs.declared.EndpointData.{EndpointData}
 use Rattle.endpoints.specs.Endpoints.{blank}
 use Rattle.common_impl.specs.Common.{selected, stallCsr0l, writeCsrl, epTxStall, epRxStall}

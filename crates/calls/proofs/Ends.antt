@@ -11,9 +11,9 @@ use lib.Dec.{eqb, ltb, leb}
 use lib.ListN.{length, drop}
 use Rattle.board.specs.declared.Board.{Board}
 use Rattle.board.specs.Boards.{rows, at-least-one}
-use Rattle.stores.specs.Stores.{Log, log, writeIndex}
+use Rattle.store_rules.specs.Stores.{Log, log, writeIndex}
 use Rattle.store_list.specs.Stores.{INDEX}
-use Rattle.stores.proofs.Promises.{index-selects, index-lists}
+use Rattle.store_rules.proofs.Promises.{index-selects, index-lists}
 use Rattle.store_list.proofs.Promises.{listed-first}
 use Rattle.endpoints.specs.declared.EndpointAllocError.{EndpointAllocError}
 use Rattle.endpoints.specs.declared.EndpointAllocError.the-variants.{EndpointOverflow, InvalidEndpoint, EpDirNotSupported, EpUsed, MaxPacketSizeBiggerThanEpFifoSize}

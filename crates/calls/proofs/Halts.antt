@@ -3,10 +3,10 @@ use mathlib.Core.Path.{_≡_, refl, ap, _∙_}
 use mathlib.Core.Bool.{true}
 use mathlib.Core.Logic.{_⊎_, inl, inr}
 use Rattle.csr.specs.declared.Side.{Side}
-use Rattle.regs.specs.Registers.{File, Whole, sideAt}
-use Rattle.stores.specs.Promise.{SameHalts}
-use Rattle.events.specs.Promise.{Event}
-use Rattle.events.proofs.Halts as events
+use Rattle.register_file.specs.Registers.{File, Whole, sideAt}
+use Rattle.store_rules.specs.Promise.{SameHalts}
+use Rattle.event_rules.specs.Promise.{Event}
+use Rattle.event_rules.proofs.Halts as events
 use Rattle.record.specs.declared.Record.{Record}
 use Rattle.record.specs.Record.{recordSound}
 use Rattle.record.proofs.Passing.{record-is-sound}

@@ -16,14 +16,14 @@ use Rattle.board.specs.declared.Direction.the-variants.{Out, In}
 use Rattle.board.specs.Table.{areaAt}
 use Rattle.board.specs.Boards.{rows, at-most-six, at-least-one}
 use Rattle.csr.specs.declared.Side.{Side}
-use Rattle.regs.specs.Registers.{File, sideAt}
-use Rattle.regs.specs.Sound.{Clean}
+use Rattle.register_file.specs.Registers.{File, sideAt}
+use Rattle.register_file.specs.Sound.{Clean}
 use Rattle.csr.specs.Control.{dropped}
 use Rattle.csr.specs.Sound.{SideOk}
-use Rattle.events.specs.Events.{received, lapsed, arrived, intrusbCleared, intrCleared}
-use Rattle.events.specs.Promise.{Event, arrival, collection, reset, suspend, resume, setupend, miss, happens, leaves, at, Kept}
-use Rattle.events.proofs.Promises.{sides, rest, usb-read, usb-rest, word-read, word-rest}
-use Rattle.events.proofs.Others.{clean, usb-clean, word-clean}
+use Rattle.event_rules.specs.Events.{received, lapsed, arrived, intrusbCleared, intrCleared}
+use Rattle.event_rules.specs.Promise.{Event, arrival, collection, reset, suspend, resume, setupend, miss, happens, leaves, at, Kept}
+use Rattle.event_rules.proofs.Promises.{sides, rest, usb-read, usb-rest, word-read, word-rest}
+use Rattle.event_rules.proofs.Others.{clean, usb-clean, word-clean}
 use Rattle.record.specs.declared.Record.{Record}
 use Rattle.record.specs.declared.Admission.{Admission}
 use Rattle.record.specs.declared.Admission.the-variants.{Clear, Refused}

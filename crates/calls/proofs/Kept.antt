@@ -5,13 +5,13 @@ use mathlib.Core.Bool.{Bool, true, false}
 use Rattle.board.specs.declared.Board.{Board}
 use Rattle.board.specs.declared.Direction.{Direction}
 use lib.ListN.{length}
-use Rattle.regs.specs.Registers.{File, Whole, intrusb, intrOf}
-use Rattle.regs.proofs.Sides.{fresh-words, fresh-whole}
+use Rattle.register_file.specs.Registers.{File, Whole, intrusb, intrOf}
+use Rattle.register_file.proofs.Sides.{fresh-words, fresh-whole}
 use Rattle.record.specs.declared.Record.{Record}
 use Rattle.record.specs.Record.{freshRecord, recordSound, areaIn, areaOf, SoundRecord}
 use Rattle.record.proofs.Areas.{size-at}
 use Rattle.record.proofs.Passing.{fresh-passes}
-use Rattle.events.specs.Promise.{Event}
+use Rattle.event_rules.specs.Promise.{Event}
 use Rattle.usb_device_interrupt.specs.Interrupt.{interrupted, interruptBy, interruptCall}
 use Rattle.calls.specs.Calls.{Op, allocEp, busInit, enable, reset, setDeviceAddress, write, read, setStalled, isStalled, poll, onInterrupt, forceReset, arrival, collection, busReset, suspend, resume, setupEnd, underrun, overrun, step}
 use Rattle.calls.specs.Kept.{Good, Pending, Stores, WritesStall}

@@ -16,12 +16,12 @@ use Rattle.csr.specs.declared.RxcsrlSet.the-variants.{NoOverRun}
 use Rattle.csr.specs.Registers.{withIso, withMaxp, towards}
 use Rattle.csr.specs.Control.{rxcsrlSet, rxStored}
 use Rattle.csr.proofs.Modified.{rx-repaired}
-use Rattle.regs.specs.Registers as file
-use Rattle.regs.specs.Registers.{File, Whole, sideAt, chosen}
-use Rattle.regs.specs.Control.{rxcsrlRead}
-use Rattle.stores.specs.Stores.{Log}
-use Rattle.stores.specs.Promise.{Store, faddr, power, index, csr0l, csr0h, txcsrl, rxcsrl, iso, maxp, intrusbe, intre, packet, does, leaves, selects}
-use Rattle.stores.proofs.Promises.{sides, rest}
+use Rattle.register_file.specs.Registers as file
+use Rattle.register_file.specs.Registers.{File, Whole, sideAt, chosen}
+use Rattle.register_file.specs.Control.{rxcsrlRead}
+use Rattle.store_rules.specs.Stores.{Log}
+use Rattle.store_rules.specs.Promise.{Store, faddr, power, index, csr0l, csr0h, txcsrl, rxcsrl, iso, maxp, intrusbe, intre, packet, does, leaves, selects}
+use Rattle.store_rules.proofs.Promises.{sides, rest}
 
 -- a store to any register but RXCSRL
 abbrev pub Apart : Store → Type 0

@@ -16,9 +16,9 @@ use Rattle.board.specs.declared.Board.{Board}
 use Rattle.board.specs.Boards.{rows, at-least-one}
 use Rattle.csr.specs.declared.Csr0lSet.the-variants.{ServicedSetupEnd}
 use Rattle.csr.specs.declared.TxcsrlSet.the-variants.{NoUnderRun}
-use Rattle.regs.specs.Control.{csr0lRead, txcsrlRead, rxcsrlRead, count0}
-use Rattle.stores.specs.Stores.{Log, log, writeIndex}
-use Rattle.stores.specs.Promise.{index}
+use Rattle.register_file.specs.Control.{csr0lRead, txcsrlRead, rxcsrlRead, count0}
+use Rattle.store_rules.specs.Stores.{Log, log, writeIndex}
+use Rattle.store_rules.specs.Promise.{index}
 use Rattle.overrun.specs.Common.{underRunCleared, overRunCleared, repaired, repairedBelow, checkOverrun}
 use Rattle.laws.specs.Lists.{numbers}
 use Rattle.control_state.specs.declared.ControlState.{ControlState}

@@ -10,8 +10,8 @@ use Rattle.board.specs.declared.Board.{Board}
 use Rattle.board.specs.Boards.{rows}
 use Rattle.csr.specs.declared.Csr0lSet.the-variants as csr0l
 use Rattle.csr.specs.declared.RxcsrlSet.the-variants as rxcsrl
-use Rattle.stores.specs.Stores.{Log, log, writeIndex}
-use Rattle.stores.specs.Promise.{index}
+use Rattle.store_rules.specs.Stores.{Log, log, writeIndex}
+use Rattle.store_rules.specs.Promise.{index}
 use Rattle.control_state.specs.declared.ControlState.{ControlState}
 use Rattle.control_state.specs.declared.ControlStateEnum.{ControlStateEnum}
 use Rattle.control_state.specs.declared.ControlStateEnum.the-variants.{Idle, Setup, DataIn, DataOut, Accepted, NodataPhase}

@@ -12,13 +12,13 @@ use Rattle.laws.proofs.Tests.{and-zero, and-one, or-zero}
 use Rattle.board.specs.Boards.{rows, at-most-six}
 use Rattle.board.specs.declared.Direction.the-variants.{Out, In}
 use Rattle.csr.specs.declared.Side.{Side}
-use Rattle.regs.specs.Registers as file
-use Rattle.regs.specs.Registers.{File, Whole, sideAt}
-use Rattle.stores.specs.Stores.{Log, writeIndex}
-use Rattle.stores.specs.Promise.{index, power}
-use Rattle.events.specs.Promise as events
-use Rattle.events.specs.Promise.{Event}
-use Rattle.events.proofs.Promises as promised
+use Rattle.register_file.specs.Registers as file
+use Rattle.register_file.specs.Registers.{File, Whole, sideAt}
+use Rattle.store_rules.specs.Stores.{Log, writeIndex}
+use Rattle.store_rules.specs.Promise.{index, power}
+use Rattle.event_rules.specs.Promise as events
+use Rattle.event_rules.specs.Promise.{Event}
+use Rattle.event_rules.proofs.Promises as promised
 use Rattle.control_state.specs.declared.ControlState.{ControlState}
 use Rattle.endpoints.specs.Endpoints.{blank}
 use Rattle.record.specs.declared.Record.{Record}

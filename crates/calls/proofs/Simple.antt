@@ -16,15 +16,15 @@ use Rattle.board.specs.Boards.{rows}
 use Rattle.csr.specs.declared.Csr0lSet.the-variants.{ServicedBoth}
 use Rattle.csr.specs.declared.TxcsrlSet.the-variants as tx-set
 use Rattle.csr.specs.declared.RxcsrlSet.the-variants as rx-set
-use Rattle.regs.specs.Registers.{enabledOf}
+use Rattle.register_file.specs.Registers.{enabledOf}
 use Rattle.csr.specs.Control.{csr0lBits, txcsrlBits, rxcsrlBits}
 use Rattle.control_state.specs.declared.ControlState.{ControlState}
 use Rattle.endpoints.specs.declared.EndpointData.{EndpointData}
 use Rattle.endpoints.specs.declared.Wanted.{Wanted}
 use Rattle.endpoints.specs.Endpoints.{Ask, blank}
-use Rattle.stores.specs.Stores.{Log, modifyCsr0l, modifyIntre}
-use Rattle.stores.specs.Promise.{faddr, power, index, csr0l, csr0h, txcsrl, rxcsrl, iso, maxp, intrusbe, intre}
-use Rattle.stores.proofs.Promises.{modify-csr0l, modify-txcsrl, modify-rxcsrl, modify-intre}
+use Rattle.store_rules.specs.Stores.{Log, modifyCsr0l, modifyIntre}
+use Rattle.store_rules.specs.Promise.{faddr, power, index, csr0l, csr0h, txcsrl, rxcsrl, iso, maxp, intrusbe, intre}
+use Rattle.store_rules.proofs.Promises.{modify-csr0l, modify-txcsrl, modify-rxcsrl, modify-intre}
 use Rattle.common_impl.specs.Common.{busInit, selected, stallCsr0l, writeCsrl, epTxStall, epRxStall, isStalled}
 use Rattle.enabling.specs.Common.{flushedZero, enabledZero, sized, settled, isoWritten, waits, flush, flushed, enabledOther, enabled, epTxEnable, epRxEnable}
 use Rattle.record.specs.declared.Record.{Record}

@@ -15,17 +15,17 @@ use Rattle.board.specs.declared.Direction.the-variants.{Out, In}
 use Rattle.board.specs.Table.{areaAt}
 use Rattle.board.specs.Boards.{rows, at-most-six}
 use Rattle.csr.specs.declared.Side.{Side}
-use Rattle.regs.specs.Registers as file
-use Rattle.regs.specs.Registers.{File, Whole, sideAt, chosen}
-use Rattle.regs.specs.Sound.{Clean}
+use Rattle.register_file.specs.Registers as file
+use Rattle.register_file.specs.Registers.{File, Whole, sideAt, chosen}
+use Rattle.register_file.specs.Sound.{Clean}
 use Rattle.csr.specs.Registers.{withIso, withMaxp, withLen}
 use Rattle.csr.specs.Control.{txStored, rxStored}
 use Rattle.csr.specs.Sound.{SideOk}
-use Rattle.stores.specs.Stores.{Log}
-use Rattle.stores.specs.Promise.{Store, faddr, power, index, csr0l, csr0h, txcsrl, rxcsrl, iso, maxp, intrusbe, intre, packet, does, leaves, selects, addresses, SameHalts}
-use Rattle.stores.proofs.Promises.{sides, rest}
-use Rattle.stores.proofs.Others.{clean}
-use Rattle.stores.proofs.Halts.{SameStall, halts}
+use Rattle.store_rules.specs.Stores.{Log}
+use Rattle.store_rules.specs.Promise.{Store, faddr, power, index, csr0l, csr0h, txcsrl, rxcsrl, iso, maxp, intrusbe, intre, packet, does, leaves, selects, addresses, SameHalts}
+use Rattle.store_rules.proofs.Promises.{sides, rest}
+use Rattle.store_rules.proofs.Others.{clean}
+use Rattle.store_rules.proofs.Halts.{SameStall, halts}
 use Rattle.laws.proofs.Tests.{clash}
 use Rattle.calls.proofs.Packets.{Apart, Spares, leaves-apart, leaves-ready}
 use Rattle.csr.proofs.Tame.{Tame, stays-ok, same, either, spared, one-way, alike, tx-tame, rx-tame, zero-tame, dropped-tame}

@@ -15,14 +15,14 @@ use Rattle.board.specs.Boards.{rows, at-least-one}
 use Rattle.csr.specs.declared.Side.{Side}
 use Rattle.csr.specs.declared.Csr0lSet.the-variants as csr0l
 use Rattle.csr.specs.declared.TxcsrlSet.the-variants as txcsrl
-use Rattle.regs.specs.Registers as file
-use Rattle.regs.specs.Registers.{Whole, sideAt, chosen}
+use Rattle.register_file.specs.Registers as file
+use Rattle.register_file.specs.Registers.{Whole, sideAt, chosen}
 use Rattle.csr.proofs.Modified.{tx-readied}
-use Rattle.regs.proofs.Modified.{zero-readied}
-use Rattle.stores.specs.Stores.{Log, log, writeIndex, modifyCsr0l, modifyTxcsrl}
-use Rattle.stores.specs.Promise.{index, packet, does, leaves}
-use Rattle.stores.proofs.Promises.{rest, modify-csr0l, modify-txcsrl}
-use Rattle.stores.proofs.Halts.{tx-modified}
+use Rattle.register_file.proofs.Modified.{zero-readied}
+use Rattle.store_rules.specs.Stores.{Log, log, writeIndex, modifyCsr0l, modifyTxcsrl}
+use Rattle.store_rules.specs.Promise.{index, packet, does, leaves}
+use Rattle.store_rules.proofs.Promises.{rest, modify-csr0l, modify-txcsrl}
+use Rattle.store_rules.proofs.Halts.{tx-modified}
 use Rattle.control_state.specs.Control.{decreased}
 use Rattle.control_state.specs.declared.ControlState.{ControlState}
 use Rattle.control_state.specs.declared.ControlStateEnum.{ControlStateEnum}

@@ -9,7 +9,7 @@ use mathlib.Core.Bool.{Bool, true, false, _||_}
 use mathlib.Core.List.{List, [], _∷_}
 use lib.Dec.{eqb}
 use lib.ListN.{drop}
-use Rattle.regs.specs.Registers.{withIndex}
+use Rattle.register_file.specs.Registers.{withIndex}
 use Rattle.endpoints.specs.declared.Wanted.{Wanted}
 use Rattle.endpoints.specs.declared.Wanted.the-variants.{Any, Number}
 use Rattle.record.specs.declared.Record.{Record}

@@ -5,8 +5,8 @@ use mathlib.Core.Path.{_≡_}
 use mathlib.Core.Bool.{Bool, not, _&&_}
 use Rattle.board.specs.declared.Direction.{Direction}
 use Rattle.board.specs.declared.Direction.the-variants.{Out}
-use Rattle.regs.specs.Registers.{Whole, intrusb, intrOf, sideAt}
-use Rattle.stores.specs.Promise.{SameHalts}
+use Rattle.register_file.specs.Registers.{Whole, intrusb, intrOf, sideAt}
+use Rattle.store_rules.specs.Promise.{SameHalts}
 use Rattle.record.specs.declared.Record.{Record}
 use Rattle.record.specs.Record.{SoundRecord}
 use Rattle.calls.specs.Calls.{Op, allocEp, busInit, enable, reset, setDeviceAddress, write, read, setStalled, isStalled, poll, onInterrupt, forceReset, arrival, collection, busReset, suspend, resume, setupEnd, underrun, overrun, step}

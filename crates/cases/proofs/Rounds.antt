@@ -12,14 +12,14 @@ use Rattle.board.specs.Boards.{rows, display, rows-display}
 use Rattle.board.specs.Table as table
 use Rattle.board.specs.declared.Board.{Board}
 use Rattle.board.specs.declared.Row.{Row}
-use Rattle.regs.specs.Registers.{freshFile, freshRegs, index, withIndex, faddr, intrusb, withIntrusb, intrOf, withIntr, sideWord, sideOf, sideIn, withSideIn, sideAt, withSide}
-use Rattle.regs.specs.Control.{csr0lRead}
+use Rattle.register_file.specs.Registers.{freshFile, freshRegs, index, withIndex, faddr, intrusb, withIntrusb, intrOf, withIntr, sideWord, sideOf, sideIn, withSideIn, sideAt, withSide}
+use Rattle.register_file.specs.Control.{csr0lRead}
 use Rattle.csr.specs.Control.{txcsrlOf, rxcsrlOf}
 use Rattle.csr.specs.Sound.{sideSound}
-use Rattle.regs.specs.Sound.{wordsBelow, sidesBelow, regsSound}
-use Rattle.stores.specs.Stores.{Log, log, writeIndex}
+use Rattle.register_file.specs.Sound.{wordsBelow, sidesBelow, regsSound}
+use Rattle.store_rules.specs.Stores.{Log, log, writeIndex}
 use Rattle.store_list.specs.Stores.{listed}
-use Rattle.events.specs.Events.{waitingAt, busRaised, busReset, busResume, intrusbCleared, intrCleared}
+use Rattle.event_rules.specs.Events.{waitingAt, busRaised, busReset, busResume, intrusbCleared, intrCleared}
 use Rattle.overrun.specs.Common.{underRunCleared, overRunCleared, repaired, repairedBelow, checkOverrun}
 use Rattle.laws.specs.Lists.{numbers}
 use Rattle.cases.specs.Allocations.{Hold}

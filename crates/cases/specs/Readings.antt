@@ -7,7 +7,7 @@ use lib.ListN.{set, replicate}
 use Rattle.board.specs.declared.Board.{Board}
 use Rattle.board.specs.declared.Direction.the-variants.{Out}
 use Rattle.csr.specs.declared.Side.{Side}
-use Rattle.regs.specs.Registers.{withSide}
+use Rattle.register_file.specs.Registers.{withSide}
 use Rattle.endpoints.specs.declared.EndpointType.the-variants.{Control}
 use Rattle.endpoints.specs.Endpoints.{fresh, marked}
 use Rattle.cases.specs.Allocations.{Case}

@@ -4,7 +4,7 @@ use mathlib.Core.List.{List, [], _∷_}
 use Prim.Native.Nat.{ℕ, zero, suc}
 use lib.ListN.{replicate}
 use Rattle.board.specs.declared.Board.the-variants.{Display}
-use Rattle.events.specs.Events.{waitingAt, busReset, busResume}
+use Rattle.event_rules.specs.Events.{waitingAt, busReset, busResume}
 use Rattle.cases.specs.Allocations.{Case}
 use Rattle.record.specs.declared.Record.{Record}
 use Rattle.record.specs.Record.{freshRecord, withRegs, withIrq}

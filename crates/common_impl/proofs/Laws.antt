@@ -7,9 +7,9 @@ use borrow.Author.Tests.{eq-eqb, ne-eqb}
 use Rattle.laws.proofs.Tests.{when-true, when-false}
 use Rattle.board.specs.declared.Direction.{Direction}
 use Rattle.board.specs.declared.Direction.the-variants.{Out, In}
-use Rattle.regs.specs.Control.{csr0lRead}
+use Rattle.register_file.specs.Control.{csr0lRead}
 use Rattle.csr.specs.declared.Csr0l.{Csr0l}
-use Rattle.stores.specs.Stores.{Log, writeIndex, writeIntrusbe, writeIntre}
+use Rattle.store_rules.specs.Stores.{Log, writeIndex, writeIntrusbe, writeIntre}
 use Rattle.common_impl.specs.Common.{busInit, selected, sendStall, isStalled}
 
 -- one step after another

@@ -15,14 +15,14 @@ use Rattle.csr.specs.declared.Rxcsrl.{Rxcsrl}
 use Rattle.csr.specs.Control.{csr0lBits, txcsrlBits, rxcsrlBits, txStored, rxStored, zeroTxStored, dropped}
 use Rattle.csr.proofs.AsWritten.{tx-stall, rx-stall, zero-stall, sent-cleared, underrun-cleared, ready-kept, packet-kept, rx-sent-cleared, overrun-cleared, rx-cleared, drops}
 use Rattle.csr.proofs.Stored.{tx-rest, rx-rest, not-dropped, zero-ready-kept, zero-packet-kept, zero-sent-cleared, tx-stall-number, rx-stall-number, zero-stall-number}
-use Rattle.regs.specs.Registers as file
-use Rattle.regs.specs.Registers.{Whole, sideAt}
+use Rattle.register_file.specs.Registers as file
+use Rattle.register_file.specs.Registers.{Whole, sideAt}
 use Rattle.store_list.specs.Stores.{listed, INDEX, CSR0L}
-use Rattle.stores.specs.Stores.{Log, writeIndex}
-use Rattle.stores.specs.Promise.{Store, csr0l, txcsrl, rxcsrl, does, register, value}
-use Rattle.stores.proofs.Promises.{sides, rest}
-use Rattle.stores.proofs.Others.{others}
-use Rattle.stores.proofs.Named.{named-enabled}
+use Rattle.store_rules.specs.Stores.{Log, writeIndex}
+use Rattle.store_rules.specs.Promise.{Store, csr0l, txcsrl, rxcsrl, does, register, value}
+use Rattle.store_rules.proofs.Promises.{sides, rest}
+use Rattle.store_rules.proofs.Others.{others}
+use Rattle.store_rules.proofs.Named.{named-enabled}
 use Rattle.common_impl.specs.Common.{selected, stallCsr0l, writeCsrl, epTxStall, epRxStall}
 use Rattle.common_impl.specs.Kept.{SameRest}
 use Rattle.common_impl.specs.Stalling.{Packet, csrl, stallValue, Stalls, Received, zeroValue, StallsZero}

@@ -15,16 +15,16 @@ use Rattle.csr.specs.declared.Txcsrl.{Txcsrl}
 use Rattle.csr.specs.declared.Rxcsrl.{Rxcsrl}
 use Rattle.csr.specs.Registers.{towards, withIso, withMaxp}
 use Rattle.csr.specs.Control.{txStored, rxStored}
-use Rattle.regs.specs.Registers as file
-use Rattle.regs.specs.Registers.{File, Whole, sideAt}
-use Rattle.regs.proofs.Readings.{reselected}
+use Rattle.register_file.specs.Registers as file
+use Rattle.register_file.specs.Registers.{File, Whole, sideAt}
+use Rattle.register_file.proofs.Readings.{reselected}
 use Rattle.store_list.specs.Stores as Stores
 use Rattle.store_list.specs.Stores.{listed, INDEX}
-use Rattle.stores.specs.Stores.{Log, writeIndex}
-use Rattle.stores.specs.Promise.{Store, index, txcsrl, rxcsrl, iso, maxp, intre, does, leaves, writes, ends, register, value, isListed, Noted}
-use Rattle.stores.proofs.Promises.{sides, rest, index-selects, index-lists}
-use Rattle.stores.proofs.Others.{others}
-use Rattle.stores.proofs.Named.{named-faddr, named-power, named-intrusbe, named-enabled}
+use Rattle.store_rules.specs.Stores.{Log, writeIndex}
+use Rattle.store_rules.specs.Promise.{Store, index, txcsrl, rxcsrl, iso, maxp, intre, does, leaves, writes, ends, register, value, isListed, Noted}
+use Rattle.store_rules.proofs.Promises.{sides, rest, index-selects, index-lists}
+use Rattle.store_rules.proofs.Others.{others}
+use Rattle.store_rules.proofs.Named.{named-faddr, named-power, named-intrusbe, named-enabled}
 use Rattle.common_impl.specs.Kept.{SameRest}
 
 -- from the log g on: endpoint e is selected, its side of direction d is s, the enable words are those of w, and n stores stand in the list l

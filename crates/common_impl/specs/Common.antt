@@ -6,10 +6,10 @@ use mathlib.Core.Bool.{Bool, false, not, cond}
 use lib.Dec.{eqb}
 use Rattle.board.specs.declared.Direction.{Direction}
 use Rattle.board.specs.declared.Direction.the-variants.{Out, In}
-use Rattle.regs.specs.Registers.{File}
+use Rattle.register_file.specs.Registers.{File}
 use Rattle.csr.specs.Control.{csr0lBits, txcsrlBits, rxcsrlBits}
-use Rattle.regs.specs.Control.{csr0lRead, txcsrlRead, rxcsrlRead}
-use Rattle.stores.specs.Stores.{Log, writeIndex, writeCsr0l, writeTxcsrl, writeRxcsrl, writeIntrusbe, writeIntre}
+use Rattle.register_file.specs.Control.{csr0lRead, txcsrlRead, rxcsrlRead}
+use Rattle.store_rules.specs.Stores.{Log, writeIndex, writeCsr0l, writeTxcsrl, writeRxcsrl, writeIntrusbe, writeIntre}
 
 -- `bus_init`: intrusbe, then 0xFE to intrrxe (endpoint 0 has no receive interrupt), then 0xFF to intrtxe
 unfoldable pub busInit : Log → Log

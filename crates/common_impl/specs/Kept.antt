@@ -7,9 +7,9 @@ use mathlib.Core.List.{List, [], _∷_}
 use lib.ListN.{length}
 use Rattle.board.specs.declared.Direction.{Direction}
 use Rattle.csr.specs.declared.Side.{Side}
-use Rattle.regs.specs.Registers.{File, faddr, power, intrusbe, intrusb, intrOf}
+use Rattle.register_file.specs.Registers.{File, faddr, power, intrusbe, intrusb, intrOf}
 use Rattle.store_list.specs.Stores.{listed}
-use Rattle.stores.specs.Stores.{Log}
+use Rattle.store_rules.specs.Stores.{Log}
 
 -- no packet waits at the side: "A drop makes its length 0"
 pub record NoPacket (s : Side) : Type 0 where

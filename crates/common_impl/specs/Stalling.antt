@@ -8,9 +8,9 @@ use mathlib.Core.List.{[], _∷_}
 use Rattle.board.specs.declared.Direction.{Direction}
 use Rattle.board.specs.declared.Direction.the-variants.{Out, In}
 use Rattle.csr.specs.declared.Side.{Side}
-use Rattle.regs.specs.Registers.{sideAt, index, setupend, enabledOf}
+use Rattle.register_file.specs.Registers.{sideAt, index, setupend, enabledOf}
 use Rattle.store_list.specs.Stores.{INDEX, CSR0L, TXCSRL, RXCSRL}
-use Rattle.stores.specs.Stores.{Log}
+use Rattle.store_rules.specs.Stores.{Log}
 use Rattle.common_impl.specs.Kept.{NoPacket, SamePacket, SameRest, to, Lists}
 
 -- at 1 to 5, stalled or unstalled: out drops the packet that was received, in keeps the packet that waits to be sent

@@ -6,7 +6,7 @@ ghost use mathlib.Core.Bool.{not};
 ghost use Prim.Native.Nat.{_+_, _*_, _≤_};
 ghost use lib.ListN.{length};
 ghost use Rattle.board.specs.declared.Direction.the-variants.{Out, In};
-ghost use Rattle.stores.specs.Stores.{log, writeIndex};
+ghost use Rattle.store_rules.specs.Stores.{log, writeIndex};
 ghost use Rattle.common_impl.specs.Common.{busInit, selected, stallCsr0l, writeCsrl, epTxStall, epRxStall, sendStall, isStalled};
 
 pub fn bus_init(w: &mut [u16; 46], list: &mut [u16], n: usize) -> usize
@@ -23,7 +23,7 @@ fn stall_csr0l(w: &mut [u16; 46], list: &mut [u16], n: usize, stall: bool, servi
     requires { ⌜ n * 3 + 3 ≤ length (now list) ⌝ }
     ensures { λ m. ⌜ (log (now (w .exit)) (now (list .exit)) m ≡ stallCsr0l stall serviced (log (now (w .entry)) (now (list .entry)) n)) × (m ≡ n + 1) ⌝ }
 {
-    let mut v = csr::zero_csr0l();
+    let mut v = csr_ops::zero_csr0l();
     v.send_stall = stall;
     v.serviced_rx_pkt_rdy = serviced;
     stores::write_csr0l(w, list, n, v)
@@ -43,13 +43,13 @@ pub fn write_csrl(
 {
     match d {
         Direction::Out => {
-            let mut v = csr::zero_rxcsrl();
+            let mut v = csr_ops::zero_rxcsrl();
             v.send_stall = stall;
             v.clr_data_tog = toggle;
             stores::write_rxcsrl(w, list, n, v)
         }
         Direction::In => {
-            let mut v = csr::zero_txcsrl();
+            let mut v = csr_ops::zero_txcsrl();
             v.send_stall = stall;
             v.clr_data_tog = toggle;
             stores::write_txcsrl(w, list, n, v)

@@ -4,7 +4,7 @@ use native.Mathlib.Omega.{arith}
 use mathlib.Core.Path.{_≡_, refl, _∙_}
 use mathlib.Core.List.{List, _++_}
 use lib.ListN.{length, getD, length-append}
-use Rattle.regs.specs.Registers.{File}
+use Rattle.register_file.specs.Registers.{File}
 use Rattle.endpoints.specs.declared.EndpointData.{EndpointData}
 use Rattle.endpoints.specs.Endpoints.{blank}
 use Rattle.record.specs.declared.Record.{Record}

@@ -5,9 +5,9 @@ use Rattle.board.specs.declared.Direction.{Direction}
 use Rattle.board.specs.declared.Direction.the-variants.{Out, In}
 use Rattle.csr.specs.declared.Side.{Side}
 use Rattle.csr.specs.Control.{txcsrlOf, rxcsrlOf, txcsrlNumber, rxcsrlNumber}
-use Rattle.regs.specs.Registers.{File, withIndex, sideAt, chosen}
-use Rattle.regs.specs.Control.{txcsrlRead, rxcsrlRead}
-use Rattle.regs.proofs.Readings.{reselected, chosen-selected}
+use Rattle.register_file.specs.Registers.{File, withIndex, sideAt, chosen}
+use Rattle.register_file.specs.Control.{txcsrlRead, rxcsrlRead}
+use Rattle.register_file.proofs.Readings.{reselected, chosen-selected}
 use Rattle.details.specs.Numbers.{txcsrlAt, rxcsrlAt}
 
 seen : (r : File) (e : ℕ) (d : Direction) → sideAt r e d ≡ chosen (withIndex r e) d

@@ -13,7 +13,7 @@ use Rattle.text.proofs.Appended.{then, said, fields-append}
 use Rattle.board.specs.declared.Direction.the-variants.{Out, In}
 use Rattle.csr.specs.declared.Side.{Side}
 use Rattle.csr.specs.Control.{txcsrlOf, rxcsrlOf, txcsrlNumber, rxcsrlNumber}
-use Rattle.regs.specs.Registers.{File, sideAt}
+use Rattle.register_file.specs.Registers.{File, sideAt}
 use Rattle.endpoints.specs.declared.EndpointData.{EndpointData}
 use Rattle.endpoints.specs.Endpoints.{blank}
 use Rattle.details.specs.Lines.{store, stores}

@@ -6,9 +6,9 @@ use mathlib.Core.Bool.{Bool, cond}
 use mathlib.Core.List.{List, [], _∷_, _++_}
 use lib.ListN.{getD}
 use Rattle.board.specs.declared.Direction.the-variants.{Out, In}
-use Rattle.regs.specs.Registers.{File, index, faddr, power, intrusbe, enabledOf, intrusb, intrOf, sideAt}
+use Rattle.register_file.specs.Registers.{File, index, faddr, power, intrusbe, enabledOf, intrusb, intrOf, sideAt}
 use Rattle.csr.specs.Control.{txcsrlOf, rxcsrlOf, csr0lNumber, txcsrlNumber, rxcsrlNumber}
-use Rattle.regs.specs.Control.{csr0lRead}
+use Rattle.register_file.specs.Control.{csr0lRead}
 use Rattle.endpoints.specs.declared.EndpointData.{EndpointData}
 use Rattle.endpoints.specs.Endpoints.{typeNumber, blank}
 use Rattle.control_state.specs.declared.ControlState.{ControlState}

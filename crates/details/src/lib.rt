@@ -71,7 +71,7 @@ fn of_chip(w: &[u16; 46]) -> [u32; 10]
         wide(w[regs::INTRUSB]),
         wide(w[regs::INTRTX]),
         wide(w[regs::INTRRX]),
-        wide(csr::csr0l_number(regs::read_csr0l(w))),
+        wide(csr_ops::csr0l_number(regs::read_csr0l(w))),
     ]
 }
 
@@ -85,10 +85,10 @@ fn shown_at(w: &[u16; 46], e: u16) -> [u32; 6]
     let tx = regs::side_at(w, e, Direction::In);
     let rx = regs::side_at(w, e, Direction::Out);
     [
-        wide(csr::txcsrl_number(csr::txcsrl_of(tx))),
-        wide(csr::rxcsrl_number(csr::rxcsrl_of(rx))),
-        wide(csr::weight(tx.iso, 64)),
-        wide(csr::weight(rx.iso, 64)),
+        wide(csr_ops::txcsrl_number(csr_ops::txcsrl_of(tx))),
+        wide(csr_ops::rxcsrl_number(csr_ops::rxcsrl_of(rx))),
+        wide(csr_ops::weight(tx.iso, 64)),
+        wide(csr_ops::weight(rx.iso, 64)),
         wide(tx.maxp),
         wide(rx.maxp),
     ]
@@ -108,8 +108,8 @@ fn rest_at(w: &[u16; 46], e: u16, d: EndpointData) -> [u32; 7]
         endpoints::type_number(kind) as u32,
         wide(conf.tx_max_packet_size),
         wide(conf.rx_max_packet_size),
-        wide(csr::weight(d.used_tx, 1)),
-        wide(csr::weight(d.used_rx, 1)),
+        wide(csr_ops::weight(d.used_tx, 1)),
+        wide(csr_ops::weight(d.used_rx, 1)),
     ]
 }
 
@@ -121,10 +121,10 @@ fn of_flags(c: ControlState, f: Flags) -> [u32; 8]
     [
         control_state::number(state) as u32,
         c.tx_len,
-        wide(csr::weight(f.reset, 1)),
-        wide(csr::weight(f.suspend, 1)),
-        wide(csr::weight(f.resume, 1)),
-        wide(csr::weight(f.ep0, 1)),
+        wide(csr_ops::weight(f.reset, 1)),
+        wide(csr_ops::weight(f.suspend, 1)),
+        wide(csr_ops::weight(f.resume, 1)),
+        wide(csr_ops::weight(f.ep0, 1)),
         wide(f.ep_tx),
         wide(f.ep_rx),
     ]

@@ -25,22 +25,22 @@ use Rattle.csr.specs.Control.{dropped, txStored, rxStored, txcsrlOf, txcsrlSet,
 use Rattle.csr.proofs.AsWritten.{drops, not-empty}
 use Rattle.csr.proofs.Modified.{tx-flushed}
 use Rattle.csr.proofs.Stored.{dropped-rest, tx-stall-number, rx-stall-number, tx-flush-number, both-serviced, both-number}
-use Rattle.regs.specs.Registers as file
-use Rattle.regs.specs.Registers.{File, Whole, sideAt, chosen, setupend, enabledOf}
-use Rattle.regs.specs.Control.{csr0lRead, txcsrlRead}
-use Rattle.regs.proofs.Readings.{tx-ready, rx-ready, same-csr0l}
-use Rattle.regs.proofs.Modified.{zero-kept}
-use Rattle.regs.proofs.AsWritten.{zero-read-zero}
+use Rattle.register_file.specs.Registers as file
+use Rattle.register_file.specs.Registers.{File, Whole, sideAt, chosen, setupend, enabledOf}
+use Rattle.register_file.specs.Control.{csr0lRead, txcsrlRead}
+use Rattle.register_file.proofs.Readings.{tx-ready, rx-ready, same-csr0l}
+use Rattle.register_file.proofs.Modified.{zero-kept}
+use Rattle.register_file.proofs.AsWritten.{zero-read-zero}
 use Rattle.endpoints.specs.declared.EndpointConfig.{EndpointConfig}
 use Rattle.endpoints.specs.declared.EndpointType.{EndpointType}
 use Rattle.endpoints.specs.declared.EndpointType.the-variants.{Control, Isochronous, Bulk, Interrupt}
 use Rattle.store_list.specs.Stores as Stores
 use Rattle.store_list.specs.Stores.{listed, INDEX, CSR0L, CSR0H, TXCSRL, RXCSRL, TXMAXP, RXMAXP, INTRTXE, INTRRXE}
-use Rattle.stores.specs.Stores.{Log, writeIndex}
-use Rattle.stores.specs.Promise.{Store, csr0l, csr0h, txcsrl, rxcsrl, iso, maxp, intre, does}
-use Rattle.stores.proofs.Promises.{sides, rest, modify-intre, modify-csr0l, modify-txcsrl}
-use Rattle.stores.proofs.Others.{others}
-use Rattle.stores.proofs.Named.{named-enabled}
+use Rattle.store_rules.specs.Stores.{Log, writeIndex}
+use Rattle.store_rules.specs.Promise.{Store, csr0l, csr0h, txcsrl, rxcsrl, iso, maxp, intre, does}
+use Rattle.store_rules.proofs.Promises.{sides, rest, modify-intre, modify-csr0l, modify-txcsrl}
+use Rattle.store_rules.proofs.Others.{others}
+use Rattle.store_rules.proofs.Named.{named-enabled}
 use Rattle.common_impl.specs.Common.{selected, writeCsrl}
 use Rattle.common_impl.specs.Kept.{NoPacket, SameBits, SameRest, Stored, entered}
 use Rattle.common_impl.proofs.Stands.{Stands, begin, wordsWith, enables, of-txcsrl, of-rxcsrl, of-iso, of-maxp, next, rest-kept, as-named}

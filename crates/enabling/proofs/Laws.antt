@@ -7,7 +7,7 @@ use Rattle.laws.proofs.Tests.{when-true, when-false}
 use Rattle.board.specs.declared.Direction.{Direction}
 use Rattle.board.specs.declared.Direction.the-variants.{In}
 use Rattle.csr.specs.declared.Csr0lSet.the-variants.{ServicedBoth}
-use Rattle.stores.specs.Stores.{Log, modifyIntre, modifyCsr0l}
+use Rattle.store_rules.specs.Stores.{Log, modifyIntre, modifyCsr0l}
 use Rattle.common_impl.specs.Common.{writeCsrl}
 use Rattle.enabling.specs.Common.{flushedZero, enabledZero, enabledOther, settled, sized, isoWritten, waits, flush, flushed}
 

@@ -5,16 +5,16 @@ use Prim.Native.Nat.{ℕ}
 use mathlib.Core.Bool.{Bool, true, false, cond}
 use Rattle.board.specs.declared.Direction.{Direction}
 use Rattle.board.specs.declared.Direction.the-variants.{Out, In}
-use Rattle.regs.specs.Registers.{File}
+use Rattle.register_file.specs.Registers.{File}
 use Rattle.csr.specs.declared.Csr0lSet.the-variants.{ServicedBoth}
 use Rattle.csr.specs.declared.TxcsrlSet.the-variants as txcsrl
 use Rattle.csr.specs.declared.RxcsrlSet.the-variants as rxcsrl
-use Rattle.regs.specs.Control.{txcsrlRead, rxcsrlRead}
+use Rattle.register_file.specs.Control.{txcsrlRead, rxcsrlRead}
 use Rattle.endpoints.specs.Endpoints.{sameType}
 use Rattle.endpoints.specs.declared.EndpointConfig.{EndpointConfig}
 use Rattle.endpoints.specs.declared.EndpointType.{EndpointType}
 use Rattle.endpoints.specs.declared.EndpointType.the-variants.{Isochronous}
-use Rattle.stores.specs.Stores.{Log, modifyCsr0l, modifyTxcsrl, modifyRxcsrl, flushCsr0h, writeIso, writeMaxp, modifyIntre}
+use Rattle.store_rules.specs.Stores.{Log, modifyCsr0l, modifyTxcsrl, modifyRxcsrl, flushCsr0h, writeIso, writeMaxp, modifyIntre}
 use Rattle.common_impl.specs.Common.{selected, writeCsrl}
 
 -- `csr0h().modify(|w| w.set_flush_fifo(true))`, of the full core alone

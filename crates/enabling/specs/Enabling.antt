@@ -10,10 +10,10 @@ use Rattle.board.specs.declared.Direction.{Direction}
 use Rattle.board.specs.declared.Direction.the-variants.{Out, In}
 use Rattle.csr.specs.declared.Side.{Side}
 use Rattle.csr.specs.Control.{csr0lNumber}
-use Rattle.regs.specs.Registers.{sideAt, index, setupend, enabledOf}
-use Rattle.regs.specs.Control.{csr0lRead}
+use Rattle.register_file.specs.Registers.{sideAt, index, setupend, enabledOf}
+use Rattle.register_file.specs.Control.{csr0lRead}
 use Rattle.store_list.specs.Stores.{INDEX, CSR0L, CSR0H, TXCSRL, RXCSRL, TXCSRH, RXCSRH, TXMAXP, RXMAXP, INTRTXE, INTRRXE}
-use Rattle.stores.specs.Stores.{Log}
+use Rattle.store_rules.specs.Stores.{Log}
 use Rattle.common_impl.specs.Kept.{NoPacket, SameBits, SameRest, Stored, to, Lists}
 
 -- `modify(|w| w.set_ep_txe(index, true))`: the endpoint's bit is set, every other of the sixteen is as it was

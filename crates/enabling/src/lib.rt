@@ -9,7 +9,7 @@ use endpoints::EndpointType;
 ghost use mathlib.Core.Path.{_≡_};
 ghost use Prim.Native.Nat.{_+_, _*_, _≤_, _<_};
 ghost use lib.ListN.{length};
-ghost use Rattle.stores.specs.Stores.{log};
+ghost use Rattle.store_rules.specs.Stores.{log};
 ghost use Rattle.enabling.specs.Common.{flushedZero, enabledZero, isoWritten, waits, flush, flushed, sized, settled, enabledOther, enabled, isochronous, epTxEnable, epRxEnable};
 
 fn flush_zero(w: &mut [u16; 46], list: &mut [u16], n: usize) -> usize

@@ -1,12 +1,13 @@
 // What each host event does to the register file, and the interrupt registers, which clear when read.
 use board::Direction;
 use board::Span;
+use event_rules::BusEvent;
 ghost use mathlib.Core.Path.{_≡_};
 ghost use Prim.Native.Nat.{_+_, _≤_, _<_};
 ghost use lib.ListN.{length};
 ghost use Rattle.laws.specs.Lists.{pasted};
-ghost use Rattle.regs.specs.Registers.{sideAt, intrusb, intrOf, withIntr};
-ghost use Rattle.events.specs.Events.{interrupting, waitingAt, arrived, collected, busBit, busRaised, setupEnded, missing, intrusbCleared, intrCleared};
+ghost use Rattle.register_file.specs.Registers.{sideAt, intrusb, intrOf, withIntr};
+ghost use Rattle.event_rules.specs.Events.{interrupting, waitingAt, arrived, collected, busBit, busRaised, setupEnded, missing, intrusbCleared, intrCleared};
 
 // Whether a packet waits at a side.
 pub fn waits(w: &[u16; 46], e: u8, d: Direction) -> bool
@@ -99,16 +100,9 @@ pub fn collect(w: &mut [u16; 46], e: u8)
     requires { ⌜ e < 16 ⌝ }
     ensures { λ _. ⌜ now (w .exit) ≡ collected (now (w .entry)) e ⌝ }
 {
-    let s = csr::drop_packet(true, regs::side_at(w, e as u16, Direction::In));
+    let s = csr_ops::drop_packet(true, regs::side_at(w, e as u16, Direction::In));
     regs::put_side(w, e as u16, Direction::In, s);
     interrupt(w, Direction::In, e);
-}
-
-// What happens on the bus: each has its bit of the bus interrupt register.
-pub enum BusEvent {
-    Suspend,
-    Resume,
-    Reset,
 }
 
 pub fn bus_bit(o: BusEvent) -> u8

@@ -10,7 +10,7 @@ use endpoints::EndpointData;
 use endpoints::EndpointType;
 use record::Flags;
 use record::Record;
-use regs::Regs;
+use register_file::Regs;
 ghost use Prim.Native.Nat.{_+_, _≤_, _<_};
 
 fn wide(x: u8) -> u32
@@ -61,17 +61,17 @@ fn put_chip(w: &mut [u16; 46], h: &[u8]) {
 // Endpoint 0: its bits stand in CSR0L.
 fn put_zero(w: &mut [u16; 46], h: &[u8]) {
     let v = word(h, 9);
-    let mut tx = csr::no_side();
+    let mut tx = csr_ops::no_side();
     tx.ready = laws::has_bit(v, 1);
     tx.stall = laws::has_bit(v, 5);
     tx.stalled = laws::has_bit(v, 2);
     tx.len = word(h, 16);
-    let mut rx = csr::no_side();
+    let mut rx = csr_ops::no_side();
     rx.ready = laws::has_bit(v, 0);
     rx.len = word(h, 17);
     regs::put_side(w, 0, Direction::In, tx);
     regs::put_side(w, 0, Direction::Out, rx);
-    w[regs::SETUPEND] = csr::weight(laws::has_bit(v, 4), 1);
+    w[regs::SETUPEND] = csr_ops::weight(laws::has_bit(v, 4), 1);
 }
 
 // A side of another endpoint, from where its TXCSRL or RXCSRL stands: every other number of it is the other side's. SentStall follows

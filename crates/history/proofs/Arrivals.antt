@@ -13,10 +13,10 @@ use Rattle.laws.specs.Words.{bit}
 use Rattle.laws.proofs.Words.{bit-raised}
 use Rattle.board.specs.declared.Board.{Board}
 use Rattle.board.specs.declared.Direction.the-variants.{Out}
-use Rattle.regs.specs.Registers.{Whole, sideAt, intrOf}
-use Rattle.events.specs.Events.{arrived}
-use Rattle.events.specs.Promise as events
-use Rattle.events.proofs.Promises.{pending}
+use Rattle.register_file.specs.Registers.{Whole, sideAt, intrOf}
+use Rattle.event_rules.specs.Events.{arrived}
+use Rattle.event_rules.specs.Promise as events
+use Rattle.event_rules.proofs.Promises.{pending}
 use Rattle.record.specs.declared.Record.{Record}
 use Rattle.record.specs.declared.Admission.{Admission}
 use Rattle.record.specs.declared.Admission.the-variants.{Clear, Refused}

@@ -8,7 +8,7 @@ use lib.Dec.{eqb, ltb, leb}
 use lib.ListN.{length}
 use Rattle.board.specs.declared.Direction.{Direction}
 use Rattle.csr.specs.declared.Csr0lSet.the-variants.{ServicedRxPktRdy}
-use Rattle.stores.specs.Stores.{Log, log, writeIndex, writeFaddr, modifyCsr0l}
+use Rattle.store_rules.specs.Stores.{Log, log, writeIndex, writeFaddr, modifyCsr0l}
 use Rattle.common_impl.specs.Common.{busInit, isStalled}
 use Rattle.control_state.specs.declared.ControlState.{ControlState}
 use Rattle.control_state.specs.declared.ControlStateEnum.{ControlStateEnum}

@@ -13,8 +13,8 @@ use Rattle.board.specs.declared.Board.the-variants.{Display}
 use Rattle.board.specs.declared.Row.{Row}
 use Rattle.board.specs.Boards.{rows-display}
 use Rattle.board.specs.declared.Direction.the-variants.{Out}
-use Rattle.regs.specs.Registers.{File, intrOf}
-use Rattle.regs.proofs.Sides.{fresh-words, fresh-zero}
+use Rattle.register_file.specs.Registers.{File, intrOf}
+use Rattle.register_file.proofs.Sides.{fresh-words, fresh-zero}
 use Rattle.record.specs.declared.Record.{Record}
 use Rattle.record.specs.Record.{freshRecord, recordSound}
 use Rattle.record.proofs.Passing.{sound-record-passes}

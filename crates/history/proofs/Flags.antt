@@ -9,8 +9,8 @@ use borrow.Author.Tests.{ne-eqb}
 use Rattle.laws.specs.Words.{bit, raised, clear}
 use Rattle.laws.proofs.Words.{bit-raised, bit-clear, raised-lt6, clear-lt}
 use Rattle.laws.proofs.Tests.{and-one}
-use Rattle.regs.specs.Control.{csr0lRead, count0}
-use Rattle.stores.specs.Stores.{Log, writeIndex}
+use Rattle.register_file.specs.Control.{csr0lRead, count0}
+use Rattle.store_rules.specs.Stores.{Log, writeIndex}
 use Rattle.control_state.specs.declared.ControlState.{ControlState}
 use Rattle.control_state.specs.declared.ControlStateEnum.{ControlStateEnum}
 use Rattle.control_state.specs.declared.ControlStateEnum.the-variants.{Idle, Setup, DataIn, DataOut, Accepted, NodataPhase}

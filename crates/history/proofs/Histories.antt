@@ -3,12 +3,12 @@ use mathlib.Core.Path.{_≡_, refl, ap, _∙_}
 use mathlib.Core.Bool.{Bool, true, false}
 use mathlib.Core.List.{List, [], _∷_, _++_}
 use Rattle.laws.specs.Words.{bit, raised, clear, bitsBelow, setBits}
-use Rattle.regs.specs.Registers.{freshFile, freshRegs, index, withIndex, intrusb, withIntrusb, intrOf, withIntr, sideWord, sideOf, sideIn, withSideIn, sideAt, withSide}
-use Rattle.regs.specs.Control.{csr0lRead}
+use Rattle.register_file.specs.Registers.{freshFile, freshRegs, index, withIndex, intrusb, withIntrusb, intrOf, withIntr, sideWord, sideOf, sideIn, withSideIn, sideAt, withSide}
+use Rattle.register_file.specs.Control.{csr0lRead}
 use Rattle.csr.specs.Control.{txcsrlOf, rxcsrlOf, txStored, rxStored, txcsrlSet, rxcsrlSet, dropped}
 use Rattle.store_list.specs.Stores.{listed}
-use Rattle.stores.specs.Stores.{noted, withOwn, writeIndex, writeTxcsrl, writeRxcsrl, modifyTxcsrl, modifyRxcsrl, writePacket}
-use Rattle.events.specs.Events.{interrupting, waitingAt, arrived, collected, busRaised, busReset, busResume, intrusbCleared, intrCleared}
+use Rattle.store_rules.specs.Stores.{noted, withOwn, writeIndex, writeTxcsrl, writeRxcsrl, modifyTxcsrl, modifyRxcsrl, writePacket}
+use Rattle.event_rules.specs.Events.{interrupting, waitingAt, arrived, collected, busRaised, busReset, busResume, intrusbCleared, intrCleared}
 use Rattle.overrun.specs.Common.{underRunCleared, overRunCleared, repaired, repairedBelow}
 use Rattle.laws.specs.Lists.{numbers}
 use Rattle.record.specs.Record.{freshRecord}

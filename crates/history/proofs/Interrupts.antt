@@ -8,10 +8,10 @@ use Rattle.laws.specs.Words.{bit}
 use Rattle.laws.proofs.Words.{bit-zero}
 use Rattle.board.specs.declared.Board.{Board}
 use Rattle.board.specs.Boards.{rows, at-most-six}
-use Rattle.regs.specs.Registers.{intrusb}
-use Rattle.events.specs.declared.BusEvent.the-variants.{Suspend}
-use Rattle.events.specs.Events.{busBit}
-use Rattle.events.proofs.Others.{usb-clears}
+use Rattle.register_file.specs.Registers.{intrusb}
+use Rattle.event_rules.specs.declared.BusEvent.the-variants.{Suspend}
+use Rattle.event_rules.specs.Events.{busBit}
+use Rattle.event_rules.proofs.Others.{usb-clears}
 use Rattle.record.specs.declared.Record.{Record}
 use Rattle.record.specs.Record.{endpointsIn, endpointsOf}
 use Rattle.record.proofs.Passing.{sound-record-passes}

@@ -9,7 +9,7 @@ use Rattle.laws.specs.Words.{bit}
 use Rattle.board.specs.declared.Board.{Board}
 use Rattle.board.specs.Boards.{rows, at-most-six, at-least-one}
 use Rattle.board.specs.declared.Direction.the-variants.{Out}
-use Rattle.regs.specs.Registers.{intrOf}
+use Rattle.register_file.specs.Registers.{intrOf}
 use Rattle.record.specs.declared.Record.{Record}
 use Rattle.calls.specs.Kept.{Good}
 use Rattle.rounds.specs.Machine.{count, takesSuspend}

@@ -14,11 +14,11 @@ use Rattle.board.specs.declared.Direction.{Direction}
 use Rattle.board.specs.declared.Direction.the-variants.{Out, In}
 use Rattle.csr.specs.declared.Side.{Side}
 use Rattle.csr.specs.Registers.{towards}
-use Rattle.regs.specs.Registers.{Whole, sideAt}
-use Rattle.regs.proofs.Sides.{fresh-words, fresh-side}
-use Rattle.events.specs.Events.{lapsed, received}
-use Rattle.events.specs.Promise as events
-use Rattle.events.proofs.Promises as promised
+use Rattle.register_file.specs.Registers.{Whole, sideAt}
+use Rattle.register_file.proofs.Sides.{fresh-words, fresh-side}
+use Rattle.event_rules.specs.Events.{lapsed, received}
+use Rattle.event_rules.specs.Promise as events
+use Rattle.event_rules.proofs.Promises as promised
 use Rattle.record.specs.declared.Record.{Record}
 use Rattle.record.specs.declared.Admission.{Admission}
 use Rattle.record.specs.declared.Admission.the-variants.{Clear, Refused}

@@ -13,8 +13,8 @@ use Rattle.laws.proofs.Words.{bit-zero, bit-below}
 use Rattle.board.specs.declared.Board.{Board}
 use Rattle.board.specs.declared.Direction.the-variants.{Out}
 use Rattle.board.specs.Boards.{rows, at-most-six, at-least-one}
-use Rattle.regs.specs.Registers.{sideAt, intrOf}
-use Rattle.stores.specs.Stores.{Log, log}
+use Rattle.register_file.specs.Registers.{sideAt, intrOf}
+use Rattle.store_rules.specs.Stores.{Log, log}
 use Rattle.overrun.specs.Common.{checkOverrun}
 use Rattle.record.specs.declared.Flags.{Flags}
 use Rattle.record.specs.declared.Record.{Record}

@@ -15,17 +15,17 @@ use Rattle.csr.specs.declared.Csr0l.{Csr0l}
 use Rattle.csr.specs.declared.Csr0lSet.the-variants.{ServicedSetupEnd}
 use Rattle.csr.specs.declared.TxcsrlSet.the-variants.{NoUnderRun}
 use Rattle.csr.specs.declared.RxcsrlSet.the-variants.{NoOverRun}
-use Rattle.regs.specs.Registers as file
-use Rattle.regs.specs.Registers.{File, Whole, sideAt, chosen}
-use Rattle.regs.specs.Control.{csr0lRead, count0, txcsrlRead, rxcsrlRead}
+use Rattle.register_file.specs.Registers as file
+use Rattle.register_file.specs.Registers.{File, Whole, sideAt, chosen}
+use Rattle.register_file.specs.Control.{csr0lRead, count0, txcsrlRead, rxcsrlRead}
 use Rattle.csr.specs.Control.{csr0lSet, txcsrlSet, rxcsrlOf, rxcsrlSet, rxStored}
 use Rattle.csr.specs.Sound.{SideOk}
-use Rattle.regs.proofs.Readings.{reselected}
+use Rattle.register_file.proofs.Readings.{reselected}
 use Rattle.csr.proofs.Modified.{rx-repaired}
-use Rattle.regs.proofs.Modified.{zero-still-waits}
-use Rattle.stores.specs.Stores.{Log, writeIndex, modifyCsr0l, modifyTxcsrl, modifyRxcsrl}
-use Rattle.stores.specs.Promise.{Store, index, csr0l, txcsrl, rxcsrl, does, leaves, selects}
-use Rattle.stores.proofs.Promises.{sides, rest, index-selects, modify-csr0l, modify-txcsrl, modify-rxcsrl}
+use Rattle.register_file.proofs.Modified.{zero-still-waits}
+use Rattle.store_rules.specs.Stores.{Log, writeIndex, modifyCsr0l, modifyTxcsrl, modifyRxcsrl}
+use Rattle.store_rules.specs.Promise.{Store, index, csr0l, txcsrl, rxcsrl, does, leaves, selects}
+use Rattle.store_rules.proofs.Promises.{sides, rest, index-selects, modify-csr0l, modify-txcsrl, modify-rxcsrl}
 use Rattle.overrun.specs.Common.{underRunCleared, overRunCleared, repaired, repairedBelow, checkOverrun}
 use Rattle.laws.specs.Lists.{numbers}
 use Rattle.control_state.specs.declared.ControlState.{ControlState}

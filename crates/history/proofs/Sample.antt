@@ -12,9 +12,9 @@ use Rattle.board.specs.declared.Board.the-variants.{Display}
 use Rattle.board.specs.declared.Direction.the-variants.{Out, In}
 use Rattle.board.specs.Table.{areaAt, total}
 use Rattle.board.specs.Boards.{rows, display, rows-display}
-use Rattle.regs.specs.Registers.{File, sideAt}
-use Rattle.stores.specs.Stores.{log}
-use Rattle.events.specs.Events as events
+use Rattle.register_file.specs.Registers.{File, sideAt}
+use Rattle.store_rules.specs.Stores.{log}
+use Rattle.event_rules.specs.Events as events
 use Rattle.overrun.specs.Common.{repairedBelow, checkOverrun}
 use Rattle.record.specs.declared.Record.{Record}
 use Rattle.record.specs.declared.Admission.{Admission}

@@ -6,10 +6,10 @@ use lib.Dec.{T}
 use lib.ListN.{length}
 use Rattle.board.specs.declared.Board.{Board}
 use Rattle.board.specs.declared.Direction.the-variants.{Out, In}
-use Rattle.regs.specs.Registers.{intrOf}
-use Rattle.events.specs.Promise as events
-use Rattle.events.specs.Promise.{happens, raises}
-use Rattle.events.proofs.Promises.{pending}
+use Rattle.register_file.specs.Registers.{intrOf}
+use Rattle.event_rules.specs.Promise as events
+use Rattle.event_rules.specs.Promise.{happens, raises}
+use Rattle.event_rules.proofs.Promises.{pending}
 use Rattle.record.specs.declared.Flags.{Flags}
 use Rattle.record.specs.declared.Record.{Record}
 use Rattle.record.specs.declared.Admission.{Admission}

@@ -10,9 +10,9 @@ use Rattle.laws.specs.Words.{bit}
 use Rattle.board.specs.declared.Board.{Board}
 use Rattle.board.specs.declared.Direction.the-variants.{Out, In}
 use Rattle.board.specs.Boards.{rows}
-use Rattle.regs.specs.Registers.{sideAt, intrusb, intrOf}
-use Rattle.events.specs.declared.BusEvent.the-variants.{Suspend as SuspendBit}
-use Rattle.events.specs.Events.{busBit}
+use Rattle.register_file.specs.Registers.{sideAt, intrusb, intrOf}
+use Rattle.event_rules.specs.declared.BusEvent.the-variants.{Suspend as SuspendBit}
+use Rattle.event_rules.specs.Events.{busBit}
 use Rattle.endpoints.specs.Endpoints.{blank}
 use Rattle.record.specs.declared.Record.{Record}
 use Rattle.record.specs.Record.{freshRecord, recordSound, endpointsOf, areaOf, needOf}

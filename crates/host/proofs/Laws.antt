@@ -13,8 +13,8 @@ use Rattle.board.specs.Boards.{at-most-six}
 use Rattle.board.specs.declared.Board.{Board}
 use Rattle.board.specs.declared.Direction.the-variants.{Out, In}
 use Rattle.board.specs.declared.Span.{Span}
-use Rattle.regs.specs.Registers.{File, sideAt}
-use Rattle.events.specs.Events.{arrived, collected}
+use Rattle.register_file.specs.Registers.{File, sideAt}
+use Rattle.event_rules.specs.Events.{arrived, collected}
 use Rattle.record.specs.declared.Flags.{Flags}
 use Rattle.record.specs.declared.Record.{Record}
 use Rattle.record.specs.declared.Refusal.{Refusal}

@@ -8,8 +8,8 @@ use lib.ListN.{length}
 use Rattle.laws.specs.Lists.{pasted}
 use Rattle.board.specs.declared.Direction.{Direction}
 use Rattle.board.specs.declared.Direction.the-variants.{Out, In}
-use Rattle.regs.specs.Registers.{File, sideAt}
-use Rattle.events.specs.Events.{arrived, busReset, busSuspend, busResume, setupEnded, missing}
+use Rattle.register_file.specs.Registers.{File, sideAt}
+use Rattle.event_rules.specs.Events.{arrived, busReset, busSuspend, busResume, setupEnded, missing}
 use Rattle.record.specs.declared.Record.{Record}
 use Rattle.record.specs.declared.Admission.{Admission}
 use Rattle.record.specs.declared.Admission.the-variants.{Clear, Refused}

@@ -6,7 +6,7 @@ use mathlib.Core.Logic.{_⊎_}
 use mathlib.Core.Bool.{true, false}
 use mathlib.Core.List.{List, [], _∷_}
 use Rattle.board.specs.declared.Direction.the-variants.{Out, In}
-use Rattle.regs.specs.Registers.{sideAt}
+use Rattle.register_file.specs.Registers.{sideAt}
 use Rattle.record.specs.declared.Record.{Record}
 use Rattle.record.specs.Record.{endpointsOf, areaOf, needOf, SoundRecord}
 use Rattle.record.specs.Rows.{Row, row, Replies}

@@ -3,19 +3,19 @@
 // its answer and the record. It stores nothing: no list is lent.
 use board::Board;
 use board::Direction;
-use events::BusEvent;
+use event_rules::BusEvent;
 use record::Admission;
 use record::Flags;
 use record::Record;
 use record::Refusal;
-use regs::Regs;
+use register_file::Regs;
 ghost use mathlib.Core.Path.{_≡_};
 ghost use mathlib.Core.Bool.{false};
 ghost use Prim.Native.Nat.{_<_};
 ghost use lib.ListN.{length};
 ghost use Rattle.laws.specs.Lists.{pasted};
 ghost use Rattle.board.specs.declared.Direction.the-variants.{Out};
-ghost use Rattle.events.specs.Events.{arrived, collected, missing};
+ghost use Rattle.event_rules.specs.Events.{arrived, collected, missing};
 ghost use Rattle.record.specs.Record.{admissionBy, passes, recordSound, areaIn};
 ghost use Rattle.host.specs.Host.{answerBy, leftBy, unless, signalled, missRefusalIn, entryIn, InBuffer, arrivalRefusalIn, arrivalCall, collectionRefusalIn, packetIn, takenBy, collectionCall, busResetCall, suspendCall, resumeCall, setupEndCall, missCall, underrunCall, overrunCall, happenedNumber, takenNumber};
 

@@ -11,8 +11,8 @@ use csr::Rxcsrl;
 use csr::RxcsrlSet;
 use csr::Txcsrl;
 use csr::TxcsrlSet;
-use events::BusEvent;
-use regs::Regs;
+use event_rules::BusEvent;
+use register_file::Regs;
 ghost use Prim.Native.Nat.{_+_, _≤_, _<_};
 ghost use lib.ListN.{length};
 

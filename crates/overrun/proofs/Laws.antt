@@ -3,12 +3,12 @@
 use mathlib.Core.Path.{_≡_, refl, sym, ap, _∙_}
 use mathlib.Core.Bool.{true, false}
 use Rattle.laws.proofs.Tests.{when-true, when-false}
-use Rattle.regs.specs.Control.{txcsrlRead, rxcsrlRead}
+use Rattle.register_file.specs.Control.{txcsrlRead, rxcsrlRead}
 use Rattle.csr.specs.declared.Txcsrl.{Txcsrl}
 use Rattle.csr.specs.declared.Rxcsrl.{Rxcsrl}
 use Rattle.csr.specs.declared.TxcsrlSet.the-variants.{NoUnderRun}
 use Rattle.csr.specs.declared.RxcsrlSet.the-variants.{NoOverRun}
-use Rattle.stores.specs.Stores.{Log, modifyTxcsrl, modifyRxcsrl}
+use Rattle.store_rules.specs.Stores.{Log, modifyTxcsrl, modifyRxcsrl}
 use Rattle.overrun.specs.Common.{underRunCleared, overRunCleared}
 
 -- a test of what was read, passed and failed

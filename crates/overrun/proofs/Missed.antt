@@ -9,10 +9,10 @@ use Rattle.laws.specs.Lists.{numbers}
 use Rattle.board.specs.declared.Direction.{Direction}
 use Rattle.board.specs.declared.Direction.the-variants.{Out, In}
 use Rattle.csr.specs.declared.Side.{Side}
-use Rattle.regs.specs.Registers.{File, sideAt, chosen}
-use Rattle.regs.proofs.Readings.{tx-missed, rx-missed, reselected, chosen-selected}
-use Rattle.stores.specs.Stores.{Log, writeIndex}
-use Rattle.stores.proofs.Promises.{index-selects}
+use Rattle.register_file.specs.Registers.{File, sideAt, chosen}
+use Rattle.register_file.proofs.Readings.{tx-missed, rx-missed, reselected, chosen-selected}
+use Rattle.store_rules.specs.Stores.{Log, writeIndex}
+use Rattle.store_rules.proofs.Promises.{index-selects}
 use Rattle.overrun.specs.Common.{overRunCleared, repaired, repairedBelow, checkOverrun, missedAt, missedTo, selectedOnly, selectedBelow}
 use Rattle.overrun.proofs.Laws.{no-under-run, no-over-run}
 

@@ -5,7 +5,7 @@ use mathlib.Core.Path.{_≡_, refl, sym, ap, _∙_}
 use mathlib.Core.List.{foldl}
 use native.Mathlib.Omega.{arith}
 use lib.ListN.{length}
-use Rattle.stores.specs.Stores.{Log}
+use Rattle.store_rules.specs.Stores.{Log}
 use Rattle.laws.specs.Lists.{numbers}
 use Rattle.laws.proofs.Lists.{numbers-next, numbers-none}
 

@@ -7,9 +7,9 @@ use Rattle.laws.specs.Lists.{numbers}
 use Rattle.board.specs.declared.Direction.the-variants.{Out, In}
 use Rattle.csr.specs.declared.TxcsrlSet.the-variants as txcsrl
 use Rattle.csr.specs.declared.RxcsrlSet.the-variants as rxcsrl
-use Rattle.regs.specs.Registers.{File, sideAt}
-use Rattle.regs.specs.Control.{txcsrlRead, rxcsrlRead}
-use Rattle.stores.specs.Stores.{Log, writeIndex, modifyTxcsrl, modifyRxcsrl}
+use Rattle.register_file.specs.Registers.{File, sideAt}
+use Rattle.register_file.specs.Control.{txcsrlRead, rxcsrlRead}
+use Rattle.store_rules.specs.Stores.{Log, writeIndex, modifyTxcsrl, modifyRxcsrl}
 
 -- the body of `check_overrun`'s loop
 unfoldable pub underRunCleared : Log → Log

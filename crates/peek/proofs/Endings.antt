@@ -11,7 +11,7 @@ use lib.ListN.{length}
 use Rattle.board.specs.declared.Board.{Board}
 use Rattle.board.specs.Boards.{rows, at-most-six}
 use Rattle.csr.specs.declared.Csr0lSet.the-variants.{DataEnd}
-use Rattle.stores.specs.Stores.{Log, writeIndex, modifyCsr0l}
+use Rattle.store_rules.specs.Stores.{Log, writeIndex, modifyCsr0l}
 use Rattle.control_state.specs.declared.ControlState.{ControlState}
 use Rattle.record.specs.declared.Flags.{Flags}
 use Rattle.record.specs.Record.{endpointsIn}

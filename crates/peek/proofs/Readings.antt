@@ -9,9 +9,9 @@ use borrow.Author.Tests.{eq-eqb, ne-eqb}
 use Rattle.board.specs.declared.Direction.{Direction}
 use Rattle.board.specs.declared.Direction.the-variants.{Out, In}
 use Rattle.csr.specs.declared.Side.{Side}
-use Rattle.regs.specs.Registers.{File, sideAt, withIndex, chosen}
-use Rattle.regs.specs.Control.{csr0lRead, txcsrlRead, rxcsrlRead, count0, rxcount}
-use Rattle.regs.proofs.Readings as regs
+use Rattle.register_file.specs.Registers.{File, sideAt, withIndex, chosen}
+use Rattle.register_file.specs.Control.{csr0lRead, txcsrlRead, rxcsrlRead, count0, rxcount}
+use Rattle.register_file.proofs.Readings as regs
 use Rattle.peek.specs.Peek.{txPktRdy, rxPktRdy, rxCount}
 
 -- the selected side, once the endpoint is selected

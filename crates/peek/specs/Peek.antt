@@ -8,8 +8,8 @@ use lib.Dec.{ltb}
 use Rattle.board.specs.declared.Board.{Board}
 use Rattle.board.specs.declared.Direction.the-variants.{Out, In}
 use Rattle.csr.specs.declared.Csr0lSet.the-variants.{DataEnd}
-use Rattle.regs.specs.Registers.{File, sideAt}
-use Rattle.stores.specs.Stores.{Log, log, writeIndex, modifyCsr0l}
+use Rattle.register_file.specs.Registers.{File, sideAt}
+use Rattle.store_rules.specs.Stores.{Log, log, writeIndex, modifyCsr0l}
 use Rattle.control_state.specs.declared.ControlState.{ControlState}
 use Rattle.record.specs.declared.Flags.{Flags}
 use Rattle.record.specs.declared.Record.{Record}

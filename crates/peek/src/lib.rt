@@ -10,7 +10,7 @@ use record::Refusal;
 ghost use mathlib.Core.Path.{_≡_};
 ghost use Prim.Native.Nat.{_+_, _*_, _≤_};
 ghost use lib.ListN.{length};
-ghost use Rattle.stores.specs.Stores.{log};
+ghost use Rattle.store_rules.specs.Stores.{log};
 ghost use Rattle.peek.specs.Peek.{shortIn, txPktRdy, rxPktRdy, rxCount, afterOf, blocked, ended};
 
 pub fn is_short(b: Board, fifo: usize, list: usize) -> bool

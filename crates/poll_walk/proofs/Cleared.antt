@@ -5,10 +5,10 @@ use mathlib.Core.Path.{_≡_, refl, sym, ap, subst, _∙_}
 use mathlib.Core.Bool.{Bool}
 use Rattle.board.specs.declared.Direction.the-variants.{Out}
 use Rattle.csr.specs.declared.Side.{Side}
-use Rattle.regs.specs.Registers.{File, sideAt}
-use Rattle.regs.proofs.Readings.{reselected}
-use Rattle.stores.specs.Stores.{Log, writeIndex}
-use Rattle.stores.proofs.Promises.{index-selects}
+use Rattle.register_file.specs.Registers.{File, sideAt}
+use Rattle.register_file.proofs.Readings.{reselected}
+use Rattle.store_rules.specs.Stores.{Log, writeIndex}
+use Rattle.store_rules.proofs.Promises.{index-selects}
 use Rattle.poll_walk.specs.Round.{readyAt, walked}
 use Rattle.poll_walk.specs.Cleared.{ClearsHighest}
 use Rattle.poll_walk.proofs.Laws.{ready-selected}

@@ -13,7 +13,7 @@ use borrow.Author.Tests.{ne-eqb}
 use Rattle.laws.specs.Words.{bit, clear, bitsBelow, setBits}
 use Rattle.laws.proofs.Words.{bit-clear, clear-lt}
 use Rattle.laws.proofs.Tests.{and-zero, and-one}
-use Rattle.stores.specs.Stores.{Log, writeIndex}
+use Rattle.store_rules.specs.Stores.{Log, writeIndex}
 use Rattle.poll_walk.specs.Round.{Walk, readyAt, drained, visit, walked}
 use Rattle.poll_walk.specs.Cleared.{ClearsHighest}
 

@@ -8,11 +8,11 @@ use lib.Dec.{eqb}
 use Rattle.laws.proofs.Tests.{when-true, when-false}
 use Rattle.board.specs.declared.Direction.the-variants.{Out}
 use Rattle.csr.specs.declared.Side.{Side}
-use Rattle.regs.specs.Registers.{File, withIndex, sideAt}
-use Rattle.regs.proofs.Readings.{zero-rx-ready, rx-ready, chosen-selected}
-use Rattle.regs.specs.Control.{csr0lRead, rxcsrlRead}
-use Rattle.stores.specs.Stores.{Log, writeIndex}
-use Rattle.stores.proofs.Promises.{index-selects}
+use Rattle.register_file.specs.Registers.{File, withIndex, sideAt}
+use Rattle.register_file.proofs.Readings.{zero-rx-ready, rx-ready, chosen-selected}
+use Rattle.register_file.specs.Control.{csr0lRead, rxcsrlRead}
+use Rattle.store_rules.specs.Stores.{Log, writeIndex}
+use Rattle.store_rules.proofs.Promises.{index-selects}
 use Rattle.laws.specs.Words.{clear}
 use Rattle.poll_walk.specs.Round.{Walk, walk, readyAt, drained, visit}
 

@@ -5,9 +5,9 @@ use mathlib.Core.Bool.{Bool, cond}
 use mathlib.Core.List.{List, foldl}
 use lib.Dec.{eqb}
 use Rattle.laws.specs.Words.{clear, setBits}
-use Rattle.regs.specs.Registers.{File}
-use Rattle.regs.specs.Control.{csr0lRead, rxcsrlRead}
-use Rattle.stores.specs.Stores.{Log, writeIndex}
+use Rattle.register_file.specs.Registers.{File}
+use Rattle.register_file.specs.Control.{csr0lRead, rxcsrlRead}
+use Rattle.store_rules.specs.Stores.{Log, writeIndex}
 use Rattle.poll_walk.specs.declared.Walked.{Walked}
 
 -- the walk's RxPktRdy, read after the index store: CSR0L's for endpoint 0, RXCSRL's for the others

@@ -6,8 +6,8 @@ ghost use Prim.Native.Nat.{_+_, _*_, _≤_, _<_};
 ghost use lib.ListN.{length};
 ghost use Rattle.laws.specs.Words.{clear, Lowest};
 ghost use Rattle.board.specs.declared.Direction.the-variants.{Out};
-ghost use Rattle.regs.specs.Registers.{sideAt};
-ghost use Rattle.stores.specs.Stores.{log};
+ghost use Rattle.register_file.specs.Registers.{sideAt};
+ghost use Rattle.store_rules.specs.Stores.{log};
 ghost use Rattle.poll_walk.specs.Round.{walkOf, walked};
 
 // What the walk hands on.

@@ -7,8 +7,8 @@ use borrow.Author.Tests.{eq-eqb, ne-eqb}
 use Rattle.laws.proofs.Tests.{when-true, when-false}
 use Rattle.csr.specs.declared.Csr0l.{Csr0l}
 use Rattle.csr.specs.declared.Csr0lSet.the-variants.{ServicedSetupEnd}
-use Rattle.regs.specs.Control.{csr0lRead, count0}
-use Rattle.stores.specs.Stores.{Log, writeIndex, modifyCsr0l}
+use Rattle.register_file.specs.Control.{csr0lRead, count0}
+use Rattle.store_rules.specs.Stores.{Log, writeIndex, modifyCsr0l}
 use Rattle.control_state.specs.declared.ControlState.{ControlState}
 use Rattle.control_state.specs.declared.ControlStateEnum.{ControlStateEnum}
 use Rattle.control_state.specs.declared.ControlStateEnum.the-variants.{Idle, Setup, DataIn, DataOut, Accepted, NodataPhase}

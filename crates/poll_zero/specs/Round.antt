@@ -6,9 +6,9 @@ use mathlib.Core.List.{List}
 use lib.Dec.{eqb}
 use Rattle.laws.specs.Words.{bit, raised, clear}
 use Rattle.csr.specs.declared.Csr0lSet.the-variants.{ServicedSetupEnd}
-use Rattle.regs.specs.Registers.{File}
-use Rattle.regs.specs.Control.{csr0lRead, count0}
-use Rattle.stores.specs.Stores.{Log, writeIndex, modifyCsr0l}
+use Rattle.register_file.specs.Registers.{File}
+use Rattle.register_file.specs.Control.{csr0lRead, count0}
+use Rattle.store_rules.specs.Stores.{Log, writeIndex, modifyCsr0l}
 use Rattle.control_state.specs.declared.ControlState.{ControlState}
 use Rattle.control_state.specs.declared.ControlStateEnum.{ControlStateEnum}
 use Rattle.control_state.specs.declared.ControlStateEnum.the-variants.{Idle, Setup, DataIn, DataOut, Accepted, NodataPhase}

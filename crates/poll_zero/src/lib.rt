@@ -7,7 +7,7 @@ ghost use mathlib.Core.Path.{_≡_};
 ghost use mathlib.Core.Bool.{true, false};
 ghost use Prim.Native.Nat.{_+_, _*_, _≤_, _<_};
 ghost use lib.ListN.{length};
-ghost use Rattle.stores.specs.Stores.{log};
+ghost use Rattle.store_rules.specs.Stores.{log};
 ghost use Rattle.poll_zero.specs.Round.{roundOf, sentBy, setupTaken, restarted, cutShort, receivedBy, zeroServed, endpointZero, putBack, acceptStep};
 
 // What the steps of a round hand on, besides the registers.

@@ -4,7 +4,7 @@ use Prim.Native.Nat.{ℕ}
 use mathlib.Core.Bool.{Bool, true, false, not, _&&_, _||_}
 use lib.Dec.{leb, ltb, eqb}
 use Rattle.board.specs.declared.Board.{Board}
-use Rattle.regs.specs.Registers.{File}
+use Rattle.register_file.specs.Registers.{File}
 use Rattle.peek.specs.declared.Verdict.{Verdict}
 use Rattle.peek.specs.declared.Verdict.the-variants as verdict
 use Rattle.peek.specs.Peek.{shortIn, rxPktRdy, rxCount, testsBy}

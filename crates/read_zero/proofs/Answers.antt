@@ -4,7 +4,7 @@ use mathlib.Core.Path.{_≡_}
 use mathlib.Core.List.{List}
 use native.Mathlib.Omega.{arith}
 use borrow.Author.Tests.{eq-eqb, le-ltb}
-use Rattle.stores.specs.Stores.{Log}
+use Rattle.store_rules.specs.Stores.{Log}
 use Rattle.control_state.specs.Control.{withState}
 use Rattle.control_state.specs.declared.ControlState.{ControlState}
 use Rattle.control_state.specs.declared.ControlStateEnum.the-variants.{DataOut, NodataPhase}

@@ -5,8 +5,8 @@ use mathlib.Core.Bool.{Bool}
 use mathlib.Core.List.{List}
 use borrow.Author.Tests.{eq-eqb, ne-eqb, lt-ltb, le-ltb}
 use Rattle.csr.specs.declared.Csr0lSet.the-variants as csr0l
-use Rattle.regs.specs.Registers.{File}
-use Rattle.stores.specs.Stores.{Log, log, modifyCsr0l}
+use Rattle.register_file.specs.Registers.{File}
+use Rattle.store_rules.specs.Stores.{Log, log, modifyCsr0l}
 use Rattle.control_state.specs.Control.{withState}
 use Rattle.control_state.specs.declared.ControlState.{ControlState}
 use Rattle.control_state.specs.declared.ControlStateEnum.{ControlStateEnum}

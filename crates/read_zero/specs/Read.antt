@@ -7,7 +7,7 @@ use lib.Dec.{leb, ltb, eqb}
 use lib.ListN.{length, getD, take}
 use Rattle.board.specs.declared.Direction.the-variants.{Out}
 use Rattle.csr.specs.declared.Csr0lSet.the-variants as csr0l
-use Rattle.stores.specs.Stores.{Log, modifyCsr0l}
+use Rattle.store_rules.specs.Stores.{Log, modifyCsr0l}
 use Rattle.control_state.specs.Control.{withState, withTxLen}
 use Rattle.control_state.specs.declared.ControlState.{ControlState}
 use Rattle.control_state.specs.declared.ControlStateEnum.{ControlStateEnum}

@@ -9,7 +9,7 @@ use record::Refusal;
 ghost use mathlib.Core.Path.{_≡_};
 ghost use Prim.Native.Nat.{_+_, _*_, _≤_, _<_};
 ghost use lib.ListN.{length, getD};
-ghost use Rattle.stores.specs.Stores.{log};
+ghost use Rattle.store_rules.specs.Stores.{log};
 ghost use Rattle.peek.specs.Peek.{afterOf};
 ghost use Rattle.read_zero.specs.Read.{gotNumber, wLength, wayIn, afterSetup, setUp, dataOut, zeroBy, readZero};
 

@@ -9,9 +9,9 @@ use Rattle.laws.proofs.Tests.{also-left, also-right, also-both}
 use Rattle.board.specs.declared.Board.{Board}
 use Rattle.board.specs.declared.Direction.{Direction}
 use Rattle.board.specs.Boards.{at-least-one}
-use Rattle.regs.specs.Registers.{sideAt, index, faddr}
-use Rattle.regs.proofs.Sides.{fresh-side, fresh-zero, fresh-words}
-use Rattle.regs.proofs.Soundness.{is-sound, sound-passes, fresh-clean}
+use Rattle.register_file.specs.Registers.{sideAt, index, faddr}
+use Rattle.register_file.proofs.Sides.{fresh-side, fresh-zero, fresh-words}
+use Rattle.register_file.proofs.Soundness.{is-sound, sound-passes, fresh-clean}
 use Rattle.csr.proofs.Soundness.{none-ok}
 use Rattle.record.specs.declared.Record.{Record}
 use Rattle.record.specs.Record.{freshRecord, areaOf, sizesOf, flagsSound, passes, recordSound, SoundRecord}

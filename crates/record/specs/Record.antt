@@ -12,8 +12,8 @@ use Rattle.board.specs.declared.Span.{Span}
 use Rattle.board.specs.Table as table
 use Rattle.board.specs.Table.{areaAt, total}
 use Rattle.board.specs.Boards.{rows}
-use Rattle.regs.specs.Registers.{File, freshRegs}
-use Rattle.regs.specs.Sound.{regsSound, Sound}
+use Rattle.register_file.specs.Registers.{File, freshRegs}
+use Rattle.register_file.specs.Sound.{regsSound, Sound}
 use Rattle.endpoints.specs.Endpoints.{fresh}
 use Rattle.control_state.specs.Control.{idle}
 use Rattle.endpoints.specs.declared.EndpointData.{EndpointData}

@@ -5,7 +5,7 @@ use board::Direction;
 use board::Span;
 use control_state::ControlState;
 use endpoints::EndpointData;
-use regs::Regs;
+use register_file::Regs;
 ghost use mathlib.Core.Path.{_≡_};
 ghost use Prim.Native.Nat.{_+_, _≤_, _<_};
 ghost use Rattle.record.specs.Record.{freshRecord, areaIn, needIn, flagsSound, passes, refusalNumber, admissionBy, endpointsIn};

@@ -8,11 +8,12 @@ use csr::Csr0l;
 use csr::Rxcsrl;
 use csr::Side;
 use csr::Txcsrl;
+use register_file::Regs;
 ghost use mathlib.Core.Path.{_≡_};
 ghost use Prim.Native.Nat.{_<_};
-ghost use Rattle.regs.specs.Registers.{freshRegs, sideWord, sideIn, withSideIn, sideAt, withSide};
-ghost use Rattle.regs.specs.Control.{csr0lRead, txcsrlRead, rxcsrlRead, count0, rxcount, csr0lStored, csr0hFlushed};
-ghost use Rattle.regs.specs.Sound.{wordsBelow, sidesBelow, regsSound};
+ghost use Rattle.register_file.specs.Registers.{freshRegs, sideWord, sideIn, withSideIn, sideAt, withSide};
+ghost use Rattle.register_file.specs.Control.{csr0lRead, txcsrlRead, rxcsrlRead, count0, rxcount, csr0lStored, csr0hFlushed};
+ghost use Rattle.register_file.specs.Sound.{wordsBelow, sidesBelow, regsSound};
 
 // Places in the array: the registers that are there once; of the interrupt registers what is raised and not read yet (of the bus suspend is
 // bit 0, resume bit 1, reset bit 2); SetupEnd of CSR0L.
@@ -43,11 +44,6 @@ const LEN: usize = 22;
 
 const MAXP: usize = 34;
 
-pub struct Regs {
-    pub words: [u16; 46],
-    pub board: Board,
-}
-
 // Registers 0, nothing waiting.
 pub fn fresh(b: Board) -> Regs
     ensures { λ r. ⌜ r ≡ freshRegs b ⌝ }
@@ -62,11 +58,11 @@ pub fn fresh(b: Board) -> Regs
 fn side_word(s: Side) -> u16
     ensures { λ r. ⌜ r ≡ sideWord s ⌝ }
 {
-    csr::weight(s.ready, 1)
-        + csr::weight(s.missed, 2)
-        + csr::weight(s.stall, 4)
-        + csr::weight(s.stalled, 8)
-        + csr::weight(s.iso, 16)
+    csr_ops::weight(s.ready, 1)
+        + csr_ops::weight(s.missed, 2)
+        + csr_ops::weight(s.stall, 4)
+        + csr_ops::weight(s.stalled, 8)
+        + csr_ops::weight(s.iso, 16)
 }
 
 // The side in a place, and another state of it.
@@ -102,7 +98,7 @@ pub fn side_at(w: &[u16; 46], e: u16, d: Direction) -> Side
     if e < 6 {
         return side_in(w, board::place_of(e as u8, d));
     }
-    csr::no_side()
+    csr_ops::no_side()
 }
 
 // Another state of a side. Past the last endpoint nothing changes.
@@ -136,13 +132,13 @@ pub fn read_csr0l(w: &[u16; 46]) -> Csr0l
 pub fn read_txcsrl(w: &[u16; 46]) -> Txcsrl
     ensures { λ v. ⌜ v ≡ txcsrlRead (now (w .entry)) ⌝ }
 {
-    csr::txcsrl_of(side_at(w, w[INDEX], Direction::In))
+    csr_ops::txcsrl_of(side_at(w, w[INDEX], Direction::In))
 }
 
 pub fn read_rxcsrl(w: &[u16; 46]) -> Rxcsrl
     ensures { λ v. ⌜ v ≡ rxcsrlRead (now (w .entry)) ⌝ }
 {
-    csr::rxcsrl_of(side_at(w, w[INDEX], Direction::Out))
+    csr_ops::rxcsrl_of(side_at(w, w[INDEX], Direction::Out))
 }
 
 pub fn read_count0(w: &[u16; 46]) -> u16
@@ -163,20 +159,20 @@ pub fn read_rxcount(w: &[u16; 46]) -> u16
 pub fn store_csr0l(w: &mut [u16; 46], v: Csr0l)
     ensures { λ _. ⌜ now (w .exit) ≡ csr0lStored v (now (w .entry)) ⌝ }
 {
-    let tx = csr::zero_tx_stored(v, side_at(w, 0, Direction::In));
-    let rx = csr::drop_packet(v.serviced_rx_pkt_rdy, side_at(w, 0, Direction::Out));
+    let tx = csr_ops::zero_tx_stored(v, side_at(w, 0, Direction::In));
+    let rx = csr_ops::drop_packet(v.serviced_rx_pkt_rdy, side_at(w, 0, Direction::Out));
     let ended = (w[SETUPEND] == 1) & !v.serviced_setup_end;
     put_side(w, 0, Direction::In, tx);
     put_side(w, 0, Direction::Out, rx);
-    w[SETUPEND] = csr::weight(ended, 1);
+    w[SETUPEND] = csr_ops::weight(ended, 1);
 }
 
 // And the flush of CSR0H.
 pub fn flush_csr0h(w: &mut [u16; 46])
     ensures { λ _. ⌜ now (w .exit) ≡ csr0hFlushed (now (w .entry)) ⌝ }
 {
-    let tx = csr::drop_packet(true, side_at(w, 0, Direction::In));
-    let rx = csr::drop_packet(true, side_at(w, 0, Direction::Out));
+    let tx = csr_ops::drop_packet(true, side_at(w, 0, Direction::In));
+    let rx = csr_ops::drop_packet(true, side_at(w, 0, Direction::Out));
     put_side(w, 0, Direction::In, tx);
     put_side(w, 0, Direction::Out, rx);
 }
@@ -200,7 +196,7 @@ fn sides_sound(w: &[u16; 46], sizes: &[u16; 12]) -> bool
     let mut ok = true;
     let mut i = 0usize;
     while i < 12 {
-        ok = ok & csr::side_sound(sizes[i], side_in(w, i));
+        ok = ok & csr_ops::side_sound(sizes[i], side_in(w, i));
         i += 1;
     }
     ok

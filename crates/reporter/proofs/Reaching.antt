@@ -13,7 +13,7 @@ use Rattle.board.specs.declared.Board.the-variants.{Display}
 use Rattle.board.specs.Table.{total}
 use Rattle.board.specs.Boards.{rows, rows-display}
 use Rattle.board.proofs.Areas.{display-total}
-use Rattle.regs.proofs.Sides.{fresh-words}
+use Rattle.register_file.proofs.Sides.{fresh-words}
 use Rattle.record.specs.declared.Record.{Record}
 use Rattle.record.specs.Record.{freshRecord, needIn, needOf}
 use Rattle.text.specs.Text.{Wrote}

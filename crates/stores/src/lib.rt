@@ -11,8 +11,8 @@ use csr::TxcsrlSet;
 ghost use mathlib.Core.Path.{_≡_};
 ghost use Prim.Native.Nat.{_+_, _*_, _≤_, _<_};
 ghost use lib.ListN.{length};
-ghost use Rattle.regs.specs.Registers.{enabledOf, withEnabled};
-ghost use Rattle.stores.specs.Stores.{log, noted, withOwn, writeFaddr, writePower, writeIndex, writeCsr0l, writeTxcsrl, writeRxcsrl, modifyCsr0l, modifyTxcsrl, modifyRxcsrl, flushCsr0h, writeIso, writeMaxp, writeIntrusbe, writeIntre, modifyIntre, writePacket};
+ghost use Rattle.register_file.specs.Registers.{enabledOf, withEnabled};
+ghost use Rattle.store_rules.specs.Stores.{log, noted, withOwn, writeFaddr, writePower, writeIndex, writeCsr0l, writeTxcsrl, writeRxcsrl, modifyCsr0l, modifyTxcsrl, modifyRxcsrl, flushCsr0h, writeIso, writeMaxp, writeIntrusbe, writeIntre, modifyIntre, writePacket};
 
 // The store that left these registers, listed.
 fn note(w: &[u16; 46], list: &mut [u16], n: usize, register: u16, value: u16) -> usize
@@ -51,7 +51,7 @@ pub fn write_csr0l(w: &mut [u16; 46], list: &mut [u16], n: usize, v: Csr0l) -> u
     ensures { λ m. ⌜ (log (now (w .exit)) (now (list .exit)) m ≡ writeCsr0l v (log (now (w .entry)) (now (list .entry)) n)) × (m ≡ n + 1) ⌝ }
 {
     regs::store_csr0l(w, v);
-    note(w, list, n, store_list::CSR0L, csr::csr0l_number(v))
+    note(w, list, n, store_list::CSR0L, csr_ops::csr0l_number(v))
 }
 
 // Another state of the selected endpoint's side, by one of the registers that endpoints 1 to 5 have each for itself. Endpoint 0 has none of them.
@@ -69,9 +69,9 @@ pub fn write_txcsrl(w: &mut [u16; 46], list: &mut [u16], n: usize, v: Txcsrl) ->
     ensures { λ m. ⌜ (log (now (w .exit)) (now (list .exit)) m ≡ writeTxcsrl v (log (now (w .entry)) (now (list .entry)) n)) × (m ≡ n + 1) ⌝ }
 {
     let e = w[regs::INDEX];
-    let s = csr::tx_stored(v, regs::side_at(w, e, Direction::In));
+    let s = csr_ops::tx_stored(v, regs::side_at(w, e, Direction::In));
     put_own(w, e, Direction::In, s);
-    note(w, list, n, store_list::TXCSRL, csr::txcsrl_number(v))
+    note(w, list, n, store_list::TXCSRL, csr_ops::txcsrl_number(v))
 }
 
 pub fn write_rxcsrl(w: &mut [u16; 46], list: &mut [u16], n: usize, v: Rxcsrl) -> usize
@@ -79,16 +79,16 @@ pub fn write_rxcsrl(w: &mut [u16; 46], list: &mut [u16], n: usize, v: Rxcsrl) ->
     ensures { λ m. ⌜ (log (now (w .exit)) (now (list .exit)) m ≡ writeRxcsrl v (log (now (w .entry)) (now (list .entry)) n)) × (m ≡ n + 1) ⌝ }
 {
     let e = w[regs::INDEX];
-    let s = csr::rx_stored(v, regs::side_at(w, e, Direction::Out));
+    let s = csr_ops::rx_stored(v, regs::side_at(w, e, Direction::Out));
     put_own(w, e, Direction::Out, s);
-    note(w, list, n, store_list::RXCSRL, csr::rxcsrl_number(v))
+    note(w, list, n, store_list::RXCSRL, csr_ops::rxcsrl_number(v))
 }
 
 pub fn modify_csr0l(w: &mut [u16; 46], list: &mut [u16], n: usize, s: Csr0lSet) -> usize
     requires { ⌜ n * 3 + 3 ≤ length (now list) ⌝ }
     ensures { λ m. ⌜ (log (now (w .exit)) (now (list .exit)) m ≡ modifyCsr0l s (log (now (w .entry)) (now (list .entry)) n)) × (m ≡ n + 1) ⌝ }
 {
-    let v = csr::csr0l_set(s, regs::read_csr0l(w));
+    let v = csr_ops::csr0l_set(s, regs::read_csr0l(w));
     write_csr0l(w, list, n, v)
 }
 
@@ -98,9 +98,9 @@ pub fn modify_txcsrl(w: &mut [u16; 46], list: &mut [u16], n: usize, s: TxcsrlSet
 {
     let e = w[regs::INDEX];
     let side = regs::side_at(w, e, Direction::In);
-    let v = csr::txcsrl_set(s, csr::txcsrl_of(side));
-    put_own(w, e, Direction::In, csr::tx_stored(v, side));
-    note(w, list, n, store_list::TXCSRL, csr::txcsrl_number(v))
+    let v = csr_ops::txcsrl_set(s, csr_ops::txcsrl_of(side));
+    put_own(w, e, Direction::In, csr_ops::tx_stored(v, side));
+    note(w, list, n, store_list::TXCSRL, csr_ops::txcsrl_number(v))
 }
 
 pub fn modify_rxcsrl(w: &mut [u16; 46], list: &mut [u16], n: usize, s: RxcsrlSet) -> usize
@@ -109,9 +109,9 @@ pub fn modify_rxcsrl(w: &mut [u16; 46], list: &mut [u16], n: usize, s: RxcsrlSet
 {
     let e = w[regs::INDEX];
     let side = regs::side_at(w, e, Direction::Out);
-    let v = csr::rxcsrl_set(s, csr::rxcsrl_of(side));
-    put_own(w, e, Direction::Out, csr::rx_stored(v, side));
-    note(w, list, n, store_list::RXCSRL, csr::rxcsrl_number(v))
+    let v = csr_ops::rxcsrl_set(s, csr_ops::rxcsrl_of(side));
+    put_own(w, e, Direction::Out, csr_ops::rx_stored(v, side));
+    note(w, list, n, store_list::RXCSRL, csr_ops::rxcsrl_number(v))
 }
 
 // CSR0H reads 0, so that `modify` with the flush bit stores that bit alone.

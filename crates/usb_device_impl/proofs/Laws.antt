@@ -7,9 +7,9 @@ use mathlib.Core.List.{List}
 use native.Mathlib.Omega.{arith}
 use borrow.Author.Tests.{ltb-false, le-leb, lt-leb}
 use lib.Dec.{ltb, leb}
-use Rattle.regs.specs.Registers.{File}
+use Rattle.register_file.specs.Registers.{File}
 use Rattle.control_state.specs.declared.ControlState.{ControlState}
-use Rattle.stores.specs.Stores.{Log, log, writeFaddr}
+use Rattle.store_rules.specs.Stores.{Log, log, writeFaddr}
 use Rattle.common_impl.specs.Common.{busInit}
 use Rattle.record.specs.declared.Record.{Record}
 use Rattle.record.specs.declared.Refusal.{Refusal}

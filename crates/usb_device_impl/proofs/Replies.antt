@@ -6,7 +6,7 @@ use mathlib.Core.List.{List}
 use lib.Dec.{leb}
 use lib.ListN.{length}
 use Rattle.control_state.specs.declared.ControlState.{ControlState}
-use Rattle.stores.specs.Stores.{Log, writeFaddr}
+use Rattle.store_rules.specs.Stores.{Log, writeFaddr}
 use Rattle.common_impl.specs.Common.{busInit}
 use Rattle.record.specs.declared.Record.{Record}
 use Rattle.record.specs.declared.Admission.{Admission}

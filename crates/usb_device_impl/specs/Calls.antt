@@ -6,11 +6,11 @@ use mathlib.Core.List.{List}
 use lib.Dec.{leb, ltb}
 use lib.ListN.{length}
 use Rattle.board.specs.declared.Board.{Board}
-use Rattle.regs.specs.Registers.{File}
+use Rattle.register_file.specs.Registers.{File}
 use Rattle.control_state.specs.declared.ControlState.{ControlState}
 use Rattle.control_state.specs.declared.ControlStateEnum.the-variants.{Idle}
 use Rattle.control_state.specs.Control.{withState, withTxLen}
-use Rattle.stores.specs.Stores.{Log, log, writeFaddr}
+use Rattle.store_rules.specs.Stores.{Log, log, writeFaddr}
 use Rattle.common_impl.specs.Common.{busInit}
 use Rattle.record.specs.declared.Flags.{Flags}
 use Rattle.record.specs.declared.Record.{Record}

@@ -11,11 +11,11 @@ use Rattle.laws.specs.Words.{bit, raised}
 use Rattle.laws.proofs.Words.{bit-raised}
 use Rattle.laws.proofs.Tests.{or-zero, or-one}
 use Rattle.board.specs.declared.Direction.the-variants.{Out, In}
-use Rattle.regs.specs.Registers.{File, Whole, intrusb, intrOf}
-use Rattle.events.specs.declared.BusEvent.the-variants.{Suspend}
-use Rattle.events.specs.Events.{busBit, intrusbCleared, intrCleared}
-use Rattle.events.proofs.Promises.{usb-rest, word-rest}
-use Rattle.events.proofs.Others.{usb-clears, tx-clears, rx-clears}
+use Rattle.register_file.specs.Registers.{File, Whole, intrusb, intrOf}
+use Rattle.event_rules.specs.declared.BusEvent.the-variants.{Suspend}
+use Rattle.event_rules.specs.Events.{busBit, intrusbCleared, intrCleared}
+use Rattle.event_rules.proofs.Promises.{usb-rest, word-rest}
+use Rattle.event_rules.proofs.Others.{usb-clears, tx-clears, rx-clears}
 use Rattle.laws.specs.Lists.{numbers}
 use Rattle.record.specs.declared.Flags.{Flags}
 use Rattle.usb_device_interrupt.specs.declared.Snapshot.{Snapshot}

@@ -5,9 +5,9 @@ use mathlib.Core.Bool.{Bool, true, false, _||_, cond}
 use mathlib.Core.List.{foldl}
 use Rattle.laws.specs.Words.{bit, raised}
 use Rattle.board.specs.declared.Direction.the-variants.{Out, In}
-use Rattle.regs.specs.Registers.{File, intrusb, intrOf}
-use Rattle.events.specs.declared.BusEvent.the-variants.{Suspend, Resume, Reset}
-use Rattle.events.specs.Events.{busBit, intrusbCleared, intrCleared}
+use Rattle.register_file.specs.Registers.{File, intrusb, intrOf}
+use Rattle.event_rules.specs.declared.BusEvent.the-variants.{Suspend, Resume, Reset}
+use Rattle.event_rules.specs.Events.{busBit, intrusbCleared, intrCleared}
 use Rattle.laws.specs.Lists.{numbers}
 use Rattle.record.specs.declared.Flags.{Flags}
 use Rattle.record.specs.declared.Refusal.the-variants.{BadRecord}

@@ -5,9 +5,9 @@ use mathlib.Core.Path.{_≡_}
 use mathlib.Core.Bool.{_||_}
 use Rattle.laws.specs.Words.{bit}
 use Rattle.board.specs.declared.Direction.the-variants.{Out, In}
-use Rattle.regs.specs.Registers.{File, intrusb, intrOf}
-use Rattle.events.specs.declared.BusEvent.the-variants.{Suspend}
-use Rattle.events.specs.Events.{busBit}
+use Rattle.register_file.specs.Registers.{File, intrusb, intrOf}
+use Rattle.event_rules.specs.declared.BusEvent.the-variants.{Suspend}
+use Rattle.event_rules.specs.Events.{busBit}
 use Rattle.record.specs.declared.Flags.{Flags}
 
 -- g are the flags of a board with so many endpoints, once the registers r were read where the flags were f

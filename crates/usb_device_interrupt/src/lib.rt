@@ -1,16 +1,16 @@
 // `on_interrupt` of the source: it reads the three interrupt registers, which clears them, and takes what it read into the flags.
 use board::Board;
 use board::Direction;
-use events::BusEvent;
+use event_rules::BusEvent;
 use record::Flags;
 use record::Record;
 use record::Refusal;
-use regs::Regs;
+use register_file::Regs;
 ghost use mathlib.Core.Path.{_≡_};
 ghost use mathlib.Core.Bool.{cond};
 ghost use Prim.Native.Nat.{_<_, _≤_};
 ghost use Rattle.laws.specs.Words.{bit};
-ghost use Rattle.events.specs.Events.{busBit};
+ghost use Rattle.event_rules.specs.Events.{busBit};
 ghost use Rattle.record.specs.Record.{endpointsIn};
 ghost use Rattle.usb_device_interrupt.specs.Interrupt.{snapshotOf, cleared, busTaken, raisedIf, endpointTaken, taken, answerBy, interruptCall};
 

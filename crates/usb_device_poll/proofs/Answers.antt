@@ -7,7 +7,7 @@ use Prim.Native.Nat.{ℕ, _≤_}
 use lib.Dec.{ltb}
 use lib.ListN.{length}
 use borrow.Author.Tests.{le-ltb}
-use Rattle.stores.specs.Stores.{log}
+use Rattle.store_rules.specs.Stores.{log}
 use Rattle.overrun.specs.Common.{checkOverrun}
 use Rattle.record.specs.declared.Record.{Record}
 use Rattle.record.specs.Record.{recordSound, endpointsIn, admissionBy}

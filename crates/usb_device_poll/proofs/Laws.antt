@@ -11,8 +11,8 @@ use lib.Pow.{pow-mono}
 use Rattle.laws.proofs.Tests.{when-true, also-right}
 use Rattle.board.specs.declared.Board.{Board}
 use Rattle.board.specs.Boards.{at-most-six}
-use Rattle.regs.specs.Registers.{File}
-use Rattle.stores.specs.Stores.{Log, log}
+use Rattle.register_file.specs.Registers.{File}
+use Rattle.store_rules.specs.Stores.{Log, log}
 use Rattle.control_state.specs.declared.ControlState.{ControlState}
 use Rattle.record.specs.declared.Flags.{Flags}
 use Rattle.record.specs.declared.Refusal.{Refusal}

@@ -10,8 +10,8 @@ use lib.ListN.{length}
 use Rattle.laws.specs.Words.{bit}
 use Rattle.laws.proofs.Words.{bit-zero}
 use Rattle.laws.proofs.Tests.{clash}
-use Rattle.regs.specs.Control.{csr0lRead}
-use Rattle.stores.specs.Stores.{Log, log, writeIndex}
+use Rattle.register_file.specs.Control.{csr0lRead}
+use Rattle.store_rules.specs.Stores.{Log, log, writeIndex}
 use Rattle.overrun.specs.Common.{checkOverrun}
 use Rattle.control_state.specs.declared.ControlState.{ControlState}
 use Rattle.control_state.specs.declared.ControlStateEnum.{ControlStateEnum}

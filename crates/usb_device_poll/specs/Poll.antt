@@ -6,8 +6,8 @@ use mathlib.Core.List.{List, [], _∷_}
 use lib.Dec.{ltb}
 use lib.ListN.{length}
 use Rattle.board.specs.declared.Board.{Board}
-use Rattle.regs.specs.Registers.{File}
-use Rattle.stores.specs.Stores.{Log, log}
+use Rattle.register_file.specs.Registers.{File}
+use Rattle.store_rules.specs.Stores.{Log, log}
 use Rattle.overrun.specs.Common.{checkOverrun}
 use Rattle.control_state.specs.declared.ControlState.{ControlState}
 use Rattle.record.specs.declared.Flags.{Flags}

@@ -4,7 +4,7 @@ use Prim.Native.Nat.{ℕ}
 use mathlib.Core.Path.{_≡_}
 use mathlib.Core.Bool.{Bool, true}
 use Rattle.laws.specs.Words.{bit}
-use Rattle.stores.specs.Stores.{Log, log}
+use Rattle.store_rules.specs.Stores.{Log, log}
 use Rattle.control_state.specs.declared.ControlState.{ControlState}
 use Rattle.control_state.specs.declared.ControlStateEnum.the-variants.{Idle}
 use Rattle.record.specs.declared.Flags.{Flags}

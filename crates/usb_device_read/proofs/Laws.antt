@@ -11,10 +11,10 @@ use Rattle.board.specs.declared.Span.{Span}
 use Rattle.board.specs.declared.Direction.the-variants.{Out}
 use Rattle.csr.specs.declared.RxcsrlSet.the-variants as rxcsrl
 use Rattle.csr.specs.declared.Side.{Side}
-use Rattle.regs.specs.Registers.{File}
-use Rattle.regs.proofs.Readings.{reselected}
-use Rattle.stores.proofs.Promises.{index-selects}
-use Rattle.stores.specs.Stores.{Log, log, writeIndex, modifyRxcsrl}
+use Rattle.register_file.specs.Registers.{File}
+use Rattle.register_file.proofs.Readings.{reselected}
+use Rattle.store_rules.proofs.Promises.{index-selects}
+use Rattle.store_rules.specs.Stores.{Log, log, writeIndex, modifyRxcsrl}
 use Rattle.control_state.specs.Control.{idle}
 use Rattle.control_state.specs.declared.ControlState.{ControlState}
 use Rattle.record.specs.declared.Flags.{Flags}

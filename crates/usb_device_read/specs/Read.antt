@@ -9,8 +9,8 @@ use Rattle.laws.specs.Lists.{pasted}
 use Rattle.board.specs.declared.Board.{Board}
 use Rattle.board.specs.declared.Direction.the-variants.{Out}
 use Rattle.csr.specs.declared.RxcsrlSet.the-variants as rxcsrl
-use Rattle.regs.specs.Registers.{File}
-use Rattle.stores.specs.Stores.{Log, log, writeIndex, modifyRxcsrl}
+use Rattle.register_file.specs.Registers.{File}
+use Rattle.store_rules.specs.Stores.{Log, log, writeIndex, modifyRxcsrl}
 use Rattle.control_state.specs.declared.ControlState.{ControlState}
 use Rattle.record.specs.declared.Flags.{Flags}
 use Rattle.record.specs.declared.Record.{Record}

@@ -7,7 +7,7 @@ use mathlib.Core.Bool.{Bool, true, false, not}
 use mathlib.Core.List.{List, [], _∷_}
 use lib.Dec.{leb}
 use Rattle.board.specs.declared.Direction.the-variants.{Out}
-use Rattle.regs.specs.Registers.{sideAt}
+use Rattle.register_file.specs.Registers.{sideAt}
 use Rattle.control_state.specs.declared.ControlStateEnum.{ControlStateEnum}
 use Rattle.control_state.specs.declared.ControlStateEnum.the-variants.{Setup, DataOut}
 use Rattle.peek.specs.Peek.{short, rxPktRdy}

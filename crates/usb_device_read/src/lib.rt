@@ -11,14 +11,14 @@ use read_zero::Got;
 use record::Flags;
 use record::Record;
 use record::Refusal;
-use regs::Regs;
+use register_file::Regs;
 ghost use mathlib.Core.Path.{_≡_};
 ghost use mathlib.Core.Bool.{true};
 ghost use Prim.Native.Nat.{_+_, _*_, _≤_};
 ghost use lib.ListN.{length};
 ghost use Rattle.board.specs.declared.Direction.the-variants.{Out};
 ghost use Rattle.record.specs.Record.{areaIn, needIn, passes};
-ghost use Rattle.stores.specs.Stores.{log};
+ghost use Rattle.store_rules.specs.Stores.{log};
 ghost use Rattle.peek.specs.Peek.{rxCount, afterOf};
 ghost use Rattle.usb_device_read.specs.Read.{tookOf, copied, readOther, got, taken, readIn, readCall};
 

@@ -5,9 +5,9 @@ use mathlib.Core.Path.{_≡_, ap, _∙_}
 use mathlib.Core.Bool.{true, false}
 use mathlib.Core.List.{List}
 use Rattle.board.specs.declared.Board.{Board}
-use Rattle.regs.specs.Registers.{File}
+use Rattle.register_file.specs.Registers.{File}
 use Rattle.endpoints.specs.declared.EndpointData.{EndpointData}
-use Rattle.stores.specs.Stores.{Log, writePower}
+use Rattle.store_rules.specs.Stores.{Log, writePower}
 use Rattle.enabling.specs.Common.{epTxEnable, epRxEnable}
 use Rattle.record.specs.declared.Record.{Record}
 use Rattle.record.specs.Record.{recordSound, admissionBy, endpointsIn, endpointsOf}

@@ -14,12 +14,12 @@ use Rattle.board.specs.declared.Direction.the-variants.{Out, In}
 use Rattle.board.specs.Boards.{rows, at-most-six}
 use Rattle.csr.specs.declared.Side.{Side}
 use Rattle.csr.proofs.Sides.{same-direction}
-use Rattle.regs.specs.Registers.{Whole, sideAt, faddr, enabledOf}
+use Rattle.register_file.specs.Registers.{Whole, sideAt, faddr, enabledOf}
 use Rattle.endpoints.specs.declared.EndpointData.{EndpointData}
 use Rattle.endpoints.specs.Endpoints.{blank, kindOf, sizeIn, usedIn, used}
-use Rattle.stores.specs.Stores.{Log, writePower}
-use Rattle.stores.specs.Promise.{power}
-use Rattle.stores.proofs.Promises.{sides, rest}
+use Rattle.store_rules.specs.Stores.{Log, writePower}
+use Rattle.store_rules.specs.Promise.{power}
+use Rattle.store_rules.proofs.Promises.{sides, rest}
 use Rattle.common_impl.specs.Kept.{NoPacket}
 use Rattle.enabling.specs.Common.{isochronous, epTxEnable, epRxEnable}
 use Rattle.enabling.specs.Enabling.{Raised, Ready, Enables, EnablesZero}

@@ -8,7 +8,7 @@ use native.Mathlib.Numerals.{add-one}
 use lib.ListN.{length, getD}
 use Rattle.endpoints.specs.declared.EndpointData.{EndpointData}
 use Rattle.endpoints.specs.Endpoints.{blank}
-use Rattle.stores.specs.Stores.{Log}
+use Rattle.store_rules.specs.Stores.{Log}
 use Rattle.usb_device_reset.specs.Calls.{usedEnabled, enabledBelow}
 
 -- from the log g on, with the log h when endpoint i of n comes: those below i are enabled, at most fourteen stores each

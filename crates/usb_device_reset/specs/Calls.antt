@@ -8,7 +8,7 @@ use Rattle.board.specs.declared.Board.{Board}
 use Rattle.control_state.specs.declared.ControlState.{ControlState}
 use Rattle.endpoints.specs.declared.EndpointData.{EndpointData}
 use Rattle.endpoints.specs.Endpoints.{blank}
-use Rattle.stores.specs.Stores.{Log, writePower}
+use Rattle.store_rules.specs.Stores.{Log, writePower}
 use Rattle.enabling.specs.Common.{epTxEnable, epRxEnable}
 use Rattle.record.specs.declared.Flags.{Flags}
 use Rattle.record.specs.declared.Record.{Record}

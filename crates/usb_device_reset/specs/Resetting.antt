@@ -7,7 +7,7 @@ use lib.ListN.{getD}
 use Rattle.laws.specs.Words.{bit}
 use Rattle.board.specs.declared.Direction.{Direction}
 use Rattle.board.specs.declared.Direction.the-variants.{In}
-use Rattle.regs.specs.Registers.{sideAt, faddr, enabledOf}
+use Rattle.register_file.specs.Registers.{sideAt, faddr, enabledOf}
 use Rattle.control_state.specs.declared.ControlStateEnum.the-variants.{Idle}
 use Rattle.endpoints.specs.declared.EndpointData.{EndpointData}
 use Rattle.endpoints.specs.Endpoints.{blank, kindOf, sizeIn, usedIn, used}

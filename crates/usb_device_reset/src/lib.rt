@@ -10,7 +10,7 @@ use usb_device_impl::Ran;
 ghost use mathlib.Core.Path.{_≡_};
 ghost use Prim.Native.Nat.{_+_, _*_, _≤_, _<_};
 ghost use lib.ListN.{length};
-ghost use Rattle.stores.specs.Stores.{log};
+ghost use Rattle.store_rules.specs.Stores.{log};
 ghost use Rattle.record.specs.Record.{listNeed};
 ghost use mathlib.Core.Bool.{false};
 ghost use Rattle.usb_device_impl.specs.Calls.{left};

@@ -6,8 +6,8 @@ use mathlib.Core.Bool.{Bool}
 use mathlib.Core.List.{List}
 use Rattle.board.specs.declared.Direction.{Direction}
 use Rattle.board.specs.declared.Direction.the-variants.{Out, In}
-use Rattle.regs.specs.Registers.{File}
-use Rattle.stores.specs.Stores.{Log, log, writeIndex}
+use Rattle.register_file.specs.Registers.{File}
+use Rattle.store_rules.specs.Stores.{Log, log, writeIndex}
 use Rattle.common_impl.specs.declared.Stalled.{Stalled}
 use Rattle.common_impl.specs.Common.{epTxStall, epRxStall, isStalled}
 use Rattle.record.specs.declared.Record.{Record}

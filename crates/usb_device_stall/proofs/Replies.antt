@@ -4,7 +4,7 @@ use mathlib.Core.Path.{_≡_, refl}
 use mathlib.Core.Bool.{Bool}
 use mathlib.Core.List.{List}
 use Rattle.board.specs.declared.Direction.{Direction}
-use Rattle.stores.specs.Stores.{Log, writeIndex}
+use Rattle.store_rules.specs.Stores.{Log, writeIndex}
 use Rattle.common_impl.specs.Common.{isStalled}
 use Rattle.record.specs.declared.Record.{Record}
 use Rattle.record.specs.declared.Admission.{Admission}

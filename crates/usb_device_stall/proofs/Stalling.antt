@@ -10,10 +10,10 @@ use lib.ListN.{length}
 use Rattle.board.specs.declared.Direction.{Direction}
 use Rattle.board.specs.declared.Direction.the-variants.{Out, In}
 use Rattle.board.specs.Boards.{rows, at-most-six}
-use Rattle.regs.specs.Registers.{Whole}
+use Rattle.register_file.specs.Registers.{Whole}
 use Rattle.control_state.specs.declared.ControlState.{ControlState}
 use Rattle.control_state.specs.declared.ControlStateEnum.the-variants.{Idle}
-use Rattle.stores.specs.Stores.{Log}
+use Rattle.store_rules.specs.Stores.{Log}
 use Rattle.common_impl.specs.Stalling.{Stalls, StallsZero}
 use Rattle.common_impl.proofs.Stalling.{tx-stalls, rx-stalls, tx-stalls-zero, rx-stalls-zero}
 use Rattle.record.specs.declared.Record.{Record}

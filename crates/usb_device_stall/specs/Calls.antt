@@ -7,9 +7,9 @@ use lib.Dec.{eqb, leb}
 use Rattle.board.specs.declared.Board.{Board}
 use Rattle.board.specs.declared.Direction.{Direction}
 use Rattle.board.specs.declared.Direction.the-variants.{Out, In}
-use Rattle.regs.specs.Registers.{File}
+use Rattle.register_file.specs.Registers.{File}
 use Rattle.control_state.specs.declared.ControlState.{ControlState}
-use Rattle.stores.specs.Stores.{Log, writeIndex}
+use Rattle.store_rules.specs.Stores.{Log, writeIndex}
 use Rattle.common_impl.specs.Common.{epTxStall, epRxStall, isStalled}
 use Rattle.record.specs.declared.Flags.{Flags}
 use Rattle.record.specs.declared.Record.{Record}

@@ -6,7 +6,7 @@ use mathlib.Core.Bool.{Bool, true}
 use mathlib.Core.List.{List}
 use Rattle.board.specs.declared.Direction.{Direction}
 use Rattle.control_state.specs.declared.ControlStateEnum.the-variants.{Idle}
-use Rattle.stores.specs.Stores.{Log, log}
+use Rattle.store_rules.specs.Stores.{Log, log}
 use Rattle.common_impl.specs.Stalling.{Stalls, StallsZero}
 use Rattle.record.specs.declared.Record.{Record}
 use Rattle.usb_device_impl.specs.Calls.{Outcome, begun}

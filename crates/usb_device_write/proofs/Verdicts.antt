@@ -9,7 +9,7 @@ use borrow.Author.Tests.{ltb-false}
 use lib.Dec.{leb}
 use Rattle.board.specs.declared.Board.{Board}
 use Rattle.board.specs.declared.Direction.the-variants.{In}
-use Rattle.regs.specs.Registers.{File}
+use Rattle.register_file.specs.Registers.{File}
 use Rattle.peek.specs.Peek.{shortIn, short, txPktRdy, testsBy, verdictNumber}
 use Rattle.peek.specs.declared.Verdict.{Verdict}
 use Rattle.peek.specs.declared.Verdict.the-variants.{Clear, Blocked}

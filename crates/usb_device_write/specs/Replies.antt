@@ -7,7 +7,7 @@ use mathlib.Core.Bool.{Bool, true, false}
 use mathlib.Core.List.{List, [], _∷_}
 use lib.Dec.{leb}
 use Rattle.board.specs.declared.Direction.the-variants.{In}
-use Rattle.regs.specs.Registers.{sideAt}
+use Rattle.register_file.specs.Registers.{sideAt}
 use Rattle.control_state.specs.declared.ControlStateEnum.{ControlStateEnum}
 use Rattle.control_state.specs.declared.ControlStateEnum.the-variants.{Idle, Setup, DataOut, Accepted, NodataPhase}
 use Rattle.peek.specs.Peek.{short, txPktRdy}

@@ -9,7 +9,7 @@ use peek::Verdict;
 use record::Flags;
 use record::Record;
 use record::Refusal;
-use regs::Regs;
+use register_file::Regs;
 use write_zero::Written;
 use write_zero::Wrote;
 ghost use mathlib.Core.Path.{_≡_};
@@ -18,7 +18,7 @@ ghost use lib.ListN.{length};
 ghost use Rattle.board.specs.declared.Direction.the-variants.{In};
 ghost use Rattle.laws.specs.Lists.{pasted};
 ghost use Rattle.record.specs.Record.{areaIn, needIn};
-ghost use Rattle.stores.specs.Stores.{log};
+ghost use Rattle.store_rules.specs.Stores.{log};
 ghost use Rattle.peek.specs.Peek.{afterOf};
 ghost use Rattle.usb_device_write.specs.Write.{ran, loaded, sentOther, sent, writeIn, writeCall};
 

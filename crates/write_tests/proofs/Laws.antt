@@ -4,7 +4,7 @@ use mathlib.Core.Path.{_≡_, sym, ap, _∙_}
 use mathlib.Core.Bool.{Bool, true, false}
 use lib.Dec.{leb}
 use Rattle.board.specs.declared.Board.{Board}
-use Rattle.regs.specs.Registers.{File}
+use Rattle.register_file.specs.Registers.{File}
 use Rattle.peek.specs.Peek.{shortIn, txPktRdy, testsBy}
 use Rattle.peek.specs.declared.Verdict.{Verdict}
 use Rattle.peek.specs.declared.Verdict.the-variants as verdict

@@ -4,7 +4,7 @@ use mathlib.Core.Path.{_≡_, sym, ap, _∙_}
 use borrow.Author.Tests.{eq-eqb, ne-eqb, lt-ltb, le-ltb}
 use Rattle.laws.specs.Words.{raised}
 use Rattle.csr.specs.declared.Csr0lSet.the-variants as csr0l
-use Rattle.stores.specs.Stores.{Log, modifyCsr0l}
+use Rattle.store_rules.specs.Stores.{Log, modifyCsr0l}
 use Rattle.control_state.specs.Control.{withState, withTxLen, decreased}
 use Rattle.control_state.specs.declared.ControlState.{ControlState}
 use Rattle.control_state.specs.declared.ControlStateEnum.{ControlStateEnum}

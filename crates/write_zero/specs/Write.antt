@@ -8,7 +8,7 @@ use lib.ListN.{getD}
 use Rattle.laws.specs.Words.{raised}
 use Rattle.board.specs.declared.Direction.the-variants.{In}
 use Rattle.csr.specs.declared.Csr0lSet.the-variants as csr0l
-use Rattle.stores.specs.Stores.{Log, modifyCsr0l}
+use Rattle.store_rules.specs.Stores.{Log, modifyCsr0l}
 use Rattle.control_state.specs.Control.{withState, withTxLen, decreased}
 use Rattle.control_state.specs.declared.ControlState.{ControlState}
 use Rattle.control_state.specs.declared.ControlStateEnum.{ControlStateEnum}

@@ -11,7 +11,7 @@ ghost use mathlib.Core.Path.{_≡_};
 ghost use Prim.Native.Nat.{_+_, _*_, _≤_, _<_};
 ghost use lib.ListN.{length};
 ghost use Rattle.laws.specs.Words.{raised};
-ghost use Rattle.stores.specs.Stores.{log};
+ghost use Rattle.store_rules.specs.Stores.{log};
 ghost use Rattle.peek.specs.Peek.{afterOf};
 ghost use Rattle.write_zero.specs.Write.{wroteNumber, withEpTx, txSizeIn, dataIn, sentDataIn, sentZero};
 

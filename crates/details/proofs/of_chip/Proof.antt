@@ -3,7 +3,7 @@
 use mathlib.Core.List.{[], _∷_}
 use mathlib.Core.Path.{ap, _∙_}
 use Rattle.csr.specs.Control.{csr0lNumber}
-use Rattle.regs.specs.Registers.{index, faddr, power, intrusbe, enabledOf, intrusb, intrOf}
+use Rattle.register_file.specs.Registers.{index, faddr, power, intrusbe, enabledOf, intrusb, intrOf}
 use Rattle.details.specs.Numbers.{ofChip, csr0lAt}
 use borrow.Author.Needs.{needs}
 use Rattle.details.proofs.of_chip.Statement.{statement}

@@ -1,6 +1,6 @@
 -- `events::arrival` meets its contract. Assumes nothing.
 use borrow.Author.Tests.{ne-eqb}
-use Rattle.events.specs.Events.{arrived}
+use Rattle.event_rules.specs.Events.{arrived}
 use borrow.Author.Needs.{needs}
 use Rattle.events.proofs.arrival.Statement.{statement}
 use Rattle.events.proofs.arrival.Tie as tie

@@ -1,8 +1,8 @@
 -- `events::arrival_zero` meets its contract. Assumes nothing.
-use Rattle.regs.specs.Registers.{File, withSide}
+use Rattle.register_file.specs.Registers.{File, withSide}
 use Rattle.board.specs.declared.Direction.the-variants.{In}
 use mathlib.Core.Path.{ap, _∙_}
-use Rattle.events.specs.Events.{interrupting, unstalled, arrived}
+use Rattle.event_rules.specs.Events.{interrupting, unstalled, arrived}
 use borrow.Author.Needs.{needs}
 use Rattle.events.proofs.arrival_zero.Statement.{statement}
 use Rattle.events.proofs.arrival_zero.Tie as tie

@@ -1,6 +1,6 @@
 -- `events::bus` meets its contract. Assumes nothing.
-use Rattle.regs.specs.Registers.{intrusb, withIntrusb}
-use Rattle.events.specs.Events.{busRaised}
+use Rattle.register_file.specs.Registers.{intrusb, withIntrusb}
+use Rattle.event_rules.specs.Events.{busRaised}
 use borrow.Author.Needs.{needs}
 use Rattle.events.proofs.bus.Statement.{statement}
 use Rattle.events.proofs.bus.Tie as tie

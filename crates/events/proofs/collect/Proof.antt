@@ -1,5 +1,5 @@
 -- `events::collect` meets its contract. Assumes nothing.
-use Rattle.events.specs.Events.{collected}
+use Rattle.event_rules.specs.Events.{collected}
 use borrow.Author.Needs.{needs}
 use Rattle.events.proofs.collect.Statement.{statement}
 use Rattle.events.proofs.collect.Tie as tie

@@ -1,5 +1,5 @@
 -- `events::interrupt` meets its contract. Assumes nothing.
-use Rattle.events.specs.Events.{interrupting}
+use Rattle.event_rules.specs.Events.{interrupting}
 use borrow.Author.Needs.{needs}
 use Rattle.events.proofs.interrupt.Statement.{statement}
 use Rattle.events.proofs.interrupt.Tie as tie

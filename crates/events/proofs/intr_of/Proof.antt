@@ -1,5 +1,5 @@
 -- `events::intr_of` meets its contract. Assumes nothing.
-use Rattle.regs.specs.Registers.{intrOf}
+use Rattle.register_file.specs.Registers.{intrOf}
 use borrow.Author.Needs.{needs}
 use Rattle.events.proofs.intr_of.Statement.{statement}
 use Rattle.events.proofs.intr_of.Tie as tie

@@ -1,5 +1,5 @@
 -- `events::miss` meets its contract. Assumes nothing.
-use Rattle.events.specs.Events.{missing}
+use Rattle.event_rules.specs.Events.{missing}
 use borrow.Author.Needs.{needs}
 use Rattle.events.proofs.miss.Statement.{statement}
 use Rattle.events.proofs.miss.Tie as tie

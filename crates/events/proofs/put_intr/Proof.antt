@@ -1,5 +1,5 @@
 -- `events::put_intr` meets its contract. Assumes nothing.
-use Rattle.regs.specs.Registers.{withIntr}
+use Rattle.register_file.specs.Registers.{withIntr}
 use borrow.Author.Needs.{needs}
 use Rattle.events.proofs.put_intr.Statement.{statement}
 use Rattle.events.proofs.put_intr.Tie as tie

@@ -1,5 +1,5 @@
 -- `events::read_intr` meets its contract. Assumes nothing.
-use Rattle.events.specs.Events.{intrCleared}
+use Rattle.event_rules.specs.Events.{intrCleared}
 use borrow.Author.Needs.{needs}
 use Rattle.events.proofs.read_intr.Statement.{statement}
 use Rattle.events.proofs.read_intr.Tie as tie

@@ -1,6 +1,6 @@
 -- `events::read_intrusb` meets its contract. Assumes nothing.
-use Rattle.regs.specs.Registers.{intrusb, withIntrusb}
-use Rattle.events.specs.Events.{intrusbCleared}
+use Rattle.register_file.specs.Registers.{intrusb, withIntrusb}
+use Rattle.event_rules.specs.Events.{intrusbCleared}
 use borrow.Author.Needs.{needs}
 use Rattle.events.proofs.read_intrusb.Statement.{statement}
 use Rattle.events.proofs.read_intrusb.Tie as tie

@@ -1,6 +1,6 @@
 -- `events::setup_end` meets its contract. Assumes nothing.
-use Rattle.regs.specs.Registers.{withSetupend}
-use Rattle.events.specs.Events.{setupEnded}
+use Rattle.register_file.specs.Registers.{withSetupend}
+use Rattle.event_rules.specs.Events.{setupEnded}
 use borrow.Author.Needs.{needs}
 use Rattle.events.proofs.setup_end.Statement.{statement}
 use Rattle.events.proofs.setup_end.Tie as tie

@@ -1,5 +1,5 @@
 -- `events::wait_at` meets its contract. Assumes nothing.
-use Rattle.events.specs.Events.{waitingAt}
+use Rattle.event_rules.specs.Events.{waitingAt}
 use borrow.Author.Needs.{needs}
 use Rattle.events.proofs.wait_at.Statement.{statement}
 use Rattle.events.proofs.wait_at.Tie as tie

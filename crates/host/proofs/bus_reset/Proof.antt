@@ -1,5 +1,5 @@
 -- `host::bus_reset` meets its contract. Assumes nothing.
-use Rattle.events.specs.Events.{busReset}
+use Rattle.event_rules.specs.Events.{busReset}
 use Rattle.host.specs.Host.{busResetCall}
 use borrow.Author.Needs.{needs}
 use Rattle.host.proofs.bus_reset.Statement.{statement}

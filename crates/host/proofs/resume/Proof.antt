@@ -1,5 +1,5 @@
 -- `host::resume` meets its contract. Assumes nothing.
-use Rattle.events.specs.Events.{busResume}
+use Rattle.event_rules.specs.Events.{busResume}
 use Rattle.host.specs.Host.{resumeCall}
 use borrow.Author.Needs.{needs}
 use Rattle.host.proofs.resume.Statement.{statement}

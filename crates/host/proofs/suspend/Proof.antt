@@ -1,5 +1,5 @@
 -- `host::suspend` meets its contract. Assumes nothing.
-use Rattle.events.specs.Events.{busSuspend}
+use Rattle.event_rules.specs.Events.{busSuspend}
 use Rattle.host.specs.Host.{suspendCall}
 use borrow.Author.Needs.{needs}
 use Rattle.host.proofs.suspend.Statement.{statement}

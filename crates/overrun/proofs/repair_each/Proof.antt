@@ -1,6 +1,6 @@
 -- `overrun::repair_each` meets its contract. Assumes nothing.
 use Rattle.overrun.specs.Common.{underRunCleared, overRunCleared, repaired, repairedBelow}
-use Rattle.stores.specs.Stores.{Log, log}
+use Rattle.store_rules.specs.Stores.{Log, log}
 use mathlib.Core.Path.{ap, _∙_}
 use Prim.Native.Nat.{_-_}
 use native.Mathlib.Omega.{arith}

@@ -3,7 +3,7 @@ use Rattle.overrun.specs.Common.{selectedOnly, selectedBelow}
 use Prim.Native.Nat.{_-_}
 use native.Mathlib.Omega.{arith}
 use borrow.Author.Needs.{needs}
-use Rattle.stores.specs.Stores.{log}
+use Rattle.store_rules.specs.Stores.{log}
 use Rattle.overrun.proofs.Walk.{Walking, begin, turn, done}
 use Rattle.overrun.proofs.select_each.Statement.{statement}
 use Rattle.overrun.proofs.select_each.Tie as tie

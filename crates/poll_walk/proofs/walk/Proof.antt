@@ -1,7 +1,7 @@
 -- `poll_walk::walk` meets its contract. Assumes nothing.
 use native.Mathlib.Omega.{arith}
 use borrow.Author.Needs.{needs}
-use Rattle.stores.specs.Stores.{log}
+use Rattle.store_rules.specs.Stores.{log}
 use Rattle.poll_walk.specs.Round.{walk, walked}
 use Rattle.poll_walk.proofs.Laws.{drained-selected, visited}
 use Rattle.poll_walk.proofs.Turns.{Walking, begin, turn, fits, done}

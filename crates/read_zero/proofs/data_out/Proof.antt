@@ -1,5 +1,5 @@
 -- `read_zero::data_out` meets its contract. Assumes nothing.
-use Rattle.stores.specs.Stores.{log}
+use Rattle.store_rules.specs.Stores.{log}
 use denote.Ref.{now}
 use Rattle.read_zero.proofs.Laws.{left-by, out-short, out-full}
 use borrow.Author.Needs.{needs}

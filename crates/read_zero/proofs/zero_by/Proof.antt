@@ -1,5 +1,5 @@
 -- `read_zero::zero_by` meets its contract. Assumes nothing.
-use Rattle.stores.specs.Stores.{log}
+use Rattle.store_rules.specs.Stores.{log}
 use denote.Ref.{now}
 use Rattle.read_zero.proofs.Laws.{left-by, by-state}
 use borrow.Author.Needs.{needs}

@@ -1,4 +1,4 @@
-use Rattle.regs.proofs.Done.{flush-done}
+use Rattle.register_file.proofs.Done.{flush-done}
 use borrow.Author.Needs.{needs}
 use Rattle.regs.proofs.flush_csr0h.Statement.{statement}
 use Rattle.regs.proofs.flush_csr0h.Tie as tie

@@ -1,4 +1,4 @@
-use Rattle.regs.specs.Registers.{freshRegs, freshFile}
+use Rattle.register_file.specs.Registers.{freshRegs, freshFile}
 use Rattle.regs.proofs.fresh.Statement.{statement}
 use Rattle.regs.proofs.fresh.Tie as tie
 

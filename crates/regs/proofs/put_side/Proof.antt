@@ -1,6 +1,6 @@
 use denote.Ref.{now}
-use Rattle.regs.specs.Registers.{withSideIn}
-use Rattle.regs.proofs.Sides.{put-there, unchanged}
+use Rattle.register_file.specs.Registers.{withSideIn}
+use Rattle.register_file.proofs.Sides.{put-there, unchanged}
 use native.Mathlib.Omega.{arith}
 use mathlib.Core.Path.{ap, sym, _∙_}
 use Prim.Native.Nat.{ℕ}

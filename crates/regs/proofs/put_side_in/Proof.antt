@@ -1,4 +1,4 @@
-use Rattle.regs.specs.Registers.{withSideIn}
+use Rattle.register_file.specs.Registers.{withSideIn}
 use borrow.Author.Needs.{needs}
 use Rattle.regs.proofs.put_side_in.Statement.{statement}
 use Rattle.regs.proofs.put_side_in.Tie as tie

@@ -1,4 +1,4 @@
-use Rattle.regs.specs.Control.{count0}
+use Rattle.register_file.specs.Control.{count0}
 use borrow.Author.Needs.{needs}
 use Rattle.regs.proofs.read_count0.Statement.{statement}
 use Rattle.regs.proofs.read_count0.Tie as tie

@@ -1,5 +1,5 @@
-use Rattle.regs.specs.Registers.{setupend}
-use Rattle.regs.specs.Control.{csr0lRead}
+use Rattle.register_file.specs.Registers.{setupend}
+use Rattle.register_file.specs.Control.{csr0lRead}
 use borrow.Author.Needs.{needs}
 use Rattle.regs.proofs.read_csr0l.Statement.{statement}
 use Rattle.regs.proofs.read_csr0l.Tie as tie

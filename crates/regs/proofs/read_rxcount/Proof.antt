@@ -1,5 +1,5 @@
-use Rattle.regs.specs.Registers.{index}
-use Rattle.regs.specs.Control.{rxcount}
+use Rattle.register_file.specs.Registers.{index}
+use Rattle.register_file.specs.Control.{rxcount}
 use borrow.Author.Needs.{needs}
 use Rattle.regs.proofs.read_rxcount.Statement.{statement}
 use Rattle.regs.proofs.read_rxcount.Tie as tie

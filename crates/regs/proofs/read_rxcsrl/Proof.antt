@@ -1,4 +1,4 @@
-use Rattle.regs.specs.Registers.{index}
+use Rattle.register_file.specs.Registers.{index}
 use borrow.Author.Needs.{needs}
 use Rattle.regs.proofs.read_rxcsrl.Statement.{statement}
 use Rattle.regs.proofs.read_rxcsrl.Tie as tie

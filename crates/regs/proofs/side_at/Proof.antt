@@ -1,5 +1,5 @@
-use Rattle.regs.specs.Registers.{sideIn}
-use Rattle.regs.proofs.Sides.{there, past}
+use Rattle.register_file.specs.Registers.{sideIn}
+use Rattle.register_file.proofs.Sides.{there, past}
 use native.Mathlib.Omega.{arith}
 use mathlib.Core.Path.{ap, sym, _∙_}
 use borrow.Author.Needs.{needs}

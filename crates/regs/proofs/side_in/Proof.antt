@@ -1,4 +1,4 @@
-use Rattle.regs.specs.Registers.{sideIn, sideOf}
+use Rattle.register_file.specs.Registers.{sideIn, sideOf}
 use borrow.Author.Needs.{needs}
 use Rattle.regs.proofs.side_in.Statement.{statement}
 use Rattle.regs.proofs.side_in.Tie as tie

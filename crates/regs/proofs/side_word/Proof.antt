@@ -1,4 +1,4 @@
-use Rattle.regs.specs.Registers.{sideWord}
+use Rattle.register_file.specs.Registers.{sideWord}
 use borrow.Author.Needs.{needs}
 use Rattle.regs.proofs.side_word.Statement.{statement}
 use Rattle.regs.proofs.side_word.Tie as tie

@@ -1,5 +1,5 @@
-use Rattle.regs.proofs.Soundness.{sides-next, sides-none}
-use Rattle.regs.specs.Sound.{sidesBelow}
+use Rattle.register_file.proofs.Soundness.{sides-next, sides-none}
+use Rattle.register_file.specs.Sound.{sidesBelow}
 use Rattle.laws.specs.Tests.{_also_}
 use denote.Ref.{now}
 use borrow.Author.Needs.{needs}

@@ -1,5 +1,5 @@
-use Rattle.regs.specs.Sound.{regsSound}
-use Rattle.regs.specs.Registers.{index, faddr}
+use Rattle.register_file.specs.Sound.{regsSound}
+use Rattle.register_file.specs.Registers.{index, faddr}
 use Rattle.laws.specs.Tests.{_also_}
 use borrow.Author.Needs.{needs}
 use Rattle.regs.proofs.sound.Statement.{statement}

@@ -1,4 +1,4 @@
-use Rattle.regs.proofs.Done.{zero-done}
+use Rattle.register_file.proofs.Done.{zero-done}
 use borrow.Author.Needs.{needs}
 use Rattle.regs.proofs.store_csr0l.Statement.{statement}
 use Rattle.regs.proofs.store_csr0l.Tie as tie

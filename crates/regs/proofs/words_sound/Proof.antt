@@ -1,5 +1,5 @@
-use Rattle.regs.proofs.Soundness.{words-next, words-none}
-use Rattle.regs.specs.Sound.{wordsBelow}
+use Rattle.register_file.proofs.Soundness.{words-next, words-none}
+use Rattle.register_file.specs.Sound.{wordsBelow}
 use Rattle.laws.specs.Tests.{_also_}
 use denote.Ref.{now}
 use borrow.Author.Needs.{needs}

@@ -1,4 +1,4 @@
-use Rattle.regs.specs.Registers.{enabledOf}
+use Rattle.register_file.specs.Registers.{enabledOf}
 use borrow.Author.Needs.{needs}
 use Rattle.stores.proofs.enable_of.Statement.{statement}
 use Rattle.stores.proofs.enable_of.Tie as tie

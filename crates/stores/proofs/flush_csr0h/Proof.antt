@@ -1,4 +1,4 @@
-use Rattle.stores.specs.Stores.{flushCsr0h}
+use Rattle.store_rules.specs.Stores.{flushCsr0h}
 use borrow.Author.Needs.{needs}
 use Rattle.stores.proofs.flush_csr0h.Statement.{statement}
 use Rattle.stores.proofs.flush_csr0h.Tie as tie

@@ -1,4 +1,4 @@
-use Rattle.stores.specs.Stores.{modifyCsr0l}
+use Rattle.store_rules.specs.Stores.{modifyCsr0l}
 use borrow.Author.Needs.{needs}
 use Rattle.stores.proofs.modify_csr0l.Statement.{statement}
 use Rattle.stores.proofs.modify_csr0l.Tie as tie

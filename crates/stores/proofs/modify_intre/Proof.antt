@@ -1,4 +1,4 @@
-use Rattle.stores.specs.Stores.{modifyIntre}
+use Rattle.store_rules.specs.Stores.{modifyIntre}
 use borrow.Author.Needs.{needs}
 use Rattle.stores.proofs.modify_intre.Statement.{statement}
 use Rattle.stores.proofs.modify_intre.Tie as tie

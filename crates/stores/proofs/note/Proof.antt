@@ -1,5 +1,5 @@
-use Rattle.regs.specs.Registers.{index}
-use Rattle.stores.specs.Stores.{noted}
+use Rattle.register_file.specs.Registers.{index}
+use Rattle.store_rules.specs.Stores.{noted}
 use borrow.Author.Needs.{needs}
 use Rattle.stores.proofs.note.Statement.{statement}
 use Rattle.stores.proofs.note.Tie as tie

@@ -1,4 +1,4 @@
-use Rattle.regs.specs.Registers.{withEnabled}
+use Rattle.register_file.specs.Registers.{withEnabled}
 use borrow.Author.Needs.{needs}
 use Rattle.stores.proofs.put_enable.Statement.{statement}
 use Rattle.stores.proofs.put_enable.Tie as tie

@@ -1,5 +1,5 @@
 use borrow.Author.Tests.{eq-eqb, ne-eqb}
-use Rattle.stores.specs.Stores.{withOwn}
+use Rattle.store_rules.specs.Stores.{withOwn}
 use borrow.Author.Needs.{needs}
 use Rattle.stores.proofs.put_own.Statement.{statement}
 use Rattle.stores.proofs.put_own.Tie as tie

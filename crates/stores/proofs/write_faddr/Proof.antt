@@ -1,5 +1,5 @@
-use Rattle.regs.specs.Registers.{withFaddr}
-use Rattle.stores.specs.Stores.{writeFaddr}
+use Rattle.register_file.specs.Registers.{withFaddr}
+use Rattle.store_rules.specs.Stores.{writeFaddr}
 use borrow.Author.Needs.{needs}
 use Rattle.stores.proofs.write_faddr.Statement.{statement}
 use Rattle.stores.proofs.write_faddr.Tie as tie

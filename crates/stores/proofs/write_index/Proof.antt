@@ -1,5 +1,5 @@
-use Rattle.regs.specs.Registers.{withIndex}
-use Rattle.stores.specs.Stores.{writeIndex}
+use Rattle.register_file.specs.Registers.{withIndex}
+use Rattle.store_rules.specs.Stores.{writeIndex}
 use borrow.Author.Needs.{needs}
 use Rattle.stores.proofs.write_index.Statement.{statement}
 use Rattle.stores.proofs.write_index.Tie as tie

@@ -1,4 +1,4 @@
-use Rattle.stores.specs.Stores.{writeIntre}
+use Rattle.store_rules.specs.Stores.{writeIntre}
 use borrow.Author.Needs.{needs}
 use Rattle.stores.proofs.write_intre.Statement.{statement}
 use Rattle.stores.proofs.write_intre.Tie as tie

@@ -1,5 +1,5 @@
-use Rattle.regs.specs.Registers.{withIntrusbe}
-use Rattle.stores.specs.Stores.{writeIntrusbe}
+use Rattle.register_file.specs.Registers.{withIntrusbe}
+use Rattle.store_rules.specs.Stores.{writeIntrusbe}
 use borrow.Author.Needs.{needs}
 use Rattle.stores.proofs.write_intrusbe.Statement.{statement}
 use Rattle.stores.proofs.write_intrusbe.Tie as tie

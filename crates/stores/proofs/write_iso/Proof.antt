@@ -1,5 +1,5 @@
-use Rattle.regs.specs.Registers.{index}
-use Rattle.stores.specs.Stores.{writeIso}
+use Rattle.register_file.specs.Registers.{index}
+use Rattle.store_rules.specs.Stores.{writeIso}
 use borrow.Author.Needs.{needs}
 use Rattle.stores.proofs.write_iso.Statement.{statement}
 use Rattle.stores.proofs.write_iso.Tie as tie

@@ -1,5 +1,5 @@
-use Rattle.regs.specs.Registers.{index}
-use Rattle.stores.specs.Stores.{writeMaxp}
+use Rattle.register_file.specs.Registers.{index}
+use Rattle.store_rules.specs.Stores.{writeMaxp}
 use borrow.Author.Needs.{needs}
 use Rattle.stores.proofs.write_maxp.Statement.{statement}
 use Rattle.stores.proofs.write_maxp.Tie as tie

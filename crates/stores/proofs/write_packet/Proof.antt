@@ -1,8 +1,8 @@
-use Rattle.stores.proofs.Promises.{packet-none, packet-some}
-use Rattle.stores.specs.Stores.{log}
+use Rattle.store_rules.proofs.Promises.{packet-none, packet-some}
+use Rattle.store_rules.specs.Stores.{log}
 use denote.Ref.{now}
 use native.Mathlib.Omega.{arith}
-use Rattle.regs.specs.Registers.{index}
+use Rattle.register_file.specs.Registers.{index}
 use borrow.Author.Needs.{needs}
 use Rattle.stores.proofs.write_packet.Statement.{statement}
 use Rattle.stores.proofs.write_packet.Tie as tie

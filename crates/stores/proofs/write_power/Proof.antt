@@ -1,5 +1,5 @@
-use Rattle.regs.specs.Registers.{withPower}
-use Rattle.stores.specs.Stores.{writePower}
+use Rattle.register_file.specs.Registers.{withPower}
+use Rattle.store_rules.specs.Stores.{writePower}
 use borrow.Author.Needs.{needs}
 use Rattle.stores.proofs.write_power.Statement.{statement}
 use Rattle.stores.proofs.write_power.Tie as tie

@@ -1,5 +1,5 @@
-use Rattle.regs.specs.Registers.{index}
-use Rattle.stores.specs.Stores.{writeRxcsrl}
+use Rattle.register_file.specs.Registers.{index}
+use Rattle.store_rules.specs.Stores.{writeRxcsrl}
 use borrow.Author.Needs.{needs}
 use Rattle.stores.proofs.write_rxcsrl.Statement.{statement}
 use Rattle.stores.proofs.write_rxcsrl.Tie as tie

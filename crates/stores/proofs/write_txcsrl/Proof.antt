@@ -1,5 +1,5 @@
-use Rattle.regs.specs.Registers.{index}
-use Rattle.stores.specs.Stores.{writeTxcsrl}
+use Rattle.register_file.specs.Registers.{index}
+use Rattle.store_rules.specs.Stores.{writeTxcsrl}
 use borrow.Author.Needs.{needs}
 use Rattle.stores.proofs.write_txcsrl.Statement.{statement}
 use Rattle.stores.proofs.write_txcsrl.Tie as tie

@@ -1,7 +1,7 @@
 -- `usb_device_poll::serve` meets its contract. Assumes nothing.
 use Rattle.usb_device_poll.specs.Poll.{pollLogged, pollServed}
 use Rattle.overrun.specs.Common.{checkOverrun}
-use Rattle.stores.specs.Stores.{Log, log}
+use Rattle.store_rules.specs.Stores.{Log, log}
 use Prim.Native.Nat.{ℕ}
 use mathlib.Core.Path.{ap, _∙_}
 use denote.Ref.{now}
