@@ -2,50 +2,72 @@
 -- Assumes nothing.
 use Prim.Native.Nat.{ℕ, _+_, _-_, _<_, _≤_}
 use native.Mathlib.Omega.{arith}
-use mathlib.Core.Path.{_≡_, _∙_}
+use mathlib.Core.Path.{_≡_, sym, ap, _∙_}
+use mathlib.Core.Bool.{Bool, true, false, cond}
 use mathlib.Core.List.{List}
+use lib.Dec.{leb}
 use lib.ListN.{length}
 use borrow.Author.Tests.{le-leb, lt-leb}
 use Rattle.reader.specs.declared.Number.{Number}
 use Rattle.reader.specs.declared.Number.the-variants.{Value, Bad as NoNumber}
-use Rattle.reader.specs.Groups.{numberAt}
+use Rattle.reader.specs.Groups.{numberAt, past, placeAfter}
 use Rattle.arguments.specs.declared.Arg.{Arg}
 use Rattle.arguments.specs.declared.Arg.the-variants.{Got, No}
 use Rattle.arguments.specs.declared.Two.{Two}
 use Rattle.arguments.specs.declared.Two.the-variants.{Both, Neither}
 use Rattle.arguments.specs.declared.Held.{Held}
 use Rattle.arguments.specs.declared.Held.the-variants.{Bytes, Cut}
-use Rattle.arguments.specs.Arguments.{argAt, twoAt}
+use Rattle.arguments.specs.Arguments.{inRange, argAt, twoAt}
 use Rattle.arguments.specs.Entries.{heldIn, packetAt}
 
+-- `in_range`
+module _ (most : ℕ) (x : Number) where
+  pub range-ok : (a past : ℕ) → x ≡ Value a past → a ≤ most → Got a past ≡ inRange most x
+  range-ok a past v h = rw v (simp (le-leb _ _ h))
+
+  pub range-over : (a past : ℕ) → x ≡ Value a past → most < a → No ≡ inRange most x
+  range-over a past v h = rw v (simp (lt-leb _ _ h))
+
+  pub range-bad : x ≡ NoNumber → No ≡ inRange most x
+  range-bad v = rw v
+
 -- `arg_at`
-module _ (s : List ℕ) (at most : ℕ) (x : Number) (e : x ≡ numberAt s at) where
-  pub arg-ok : (a past : ℕ) → x ≡ Value a past → a ≤ most → Got a past ≡ argAt s at most
-  unfolding argAt
-  arg-ok a past v h = rw (← e, v) (simp (le-leb _ _ h))
+pub arg-is : (s : List ℕ) (at most : ℕ) (n : Number) {r : Arg} → n ≡ numberAt s at → r ≡ inRange most n → r ≡ argAt s at most
+unfolding argAt
+arg-is s at most n e p = p ∙ ap (inRange most) e
 
-  pub arg-over : (a past : ℕ) → x ≡ Value a past → most < a → No ≡ argAt s at most
-  unfolding argAt
-  arg-over a past v h = rw (← e, v) (simp (lt-leb _ _ h))
+-- `two_at`: the reader has moved past the first number
+moved : (s : List ℕ) (at m a mid : ℕ) → inRange m (numberAt s at) ≡ Got a mid → placeAfter s at ≡ mid
+unfolding placeAfter
+moved s at m a mid e = go (numberAt s at) e
+  where
+    one : (n after : ℕ) (b : Bool) → cond b (Got n after) No ≡ Got a mid → after ≡ mid
+    one n after true e = cc
+    one n after false e = let z : _≡_ {A = ℕ} 0 1 = cc in absurd (omega arith)
 
-  pub arg-bad : x ≡ NoNumber → No ≡ argAt s at most
-  unfolding argAt
-  arg-bad v = rw (← e, v)
+    go : (x : Number) → inRange m x ≡ Got a mid → past at x ≡ mid
+    go (Value n after) e = one n after (leb n m) e
+    go NoNumber e = let z : _≡_ {A = ℕ} 0 1 = cc in absurd (omega arith)
 
--- `two_at`
-module _ (s : List ℕ) (at m n : ℕ) (x : Arg) (e : x ≡ argAt s at m) where
+module _ (s : List ℕ) (at m n : ℕ) (f : Number) (ef : f ≡ numberAt s at) (x : Arg) (e : x ≡ inRange m f) where
+  first-is : x ≡ argAt s at m
+  first-is = arg-is s at m f ef e
+
   pub two-none : x ≡ No → Neither ≡ twoAt s at m n
   unfolding twoAt
-  two-none v = rw (← e, v)
+  two-none v = rw (← first-is, v)
 
-  module _ (a mid : ℕ) (v : x ≡ Got a mid) (y : Arg) (f : y ≡ argAt s mid n) where
+  module _ (g : Number) (eg : g ≡ numberAt s (placeAfter s at)) (a mid : ℕ) (v : x ≡ Got a mid) (y : Arg) (h : y ≡ inRange n g) where
+    second-is : y ≡ argAt s mid n
+    second-is = arg-is s mid n g (eg ∙ ap (numberAt s) (moved s at m a mid (ap (inRange m) (sym ef) ∙ sym e ∙ v))) h
+
     pub two-both : (b past : ℕ) → y ≡ Got b past → Both a b past ≡ twoAt s at m n
     unfolding twoAt
-    two-both b past w = rw (← e, v, ← f, w)
+    two-both b past w = rw (← first-is, v, ← second-is, w)
 
     pub two-one : y ≡ No → Neither ≡ twoAt s at m n
     unfolding twoAt
-    two-one w = rw (← e, v, ← f, w)
+    two-one w = rw (← first-is, v, ← second-is, w)
 
 -- `held_in`, `packet_at`
 module _ (s : List ℕ) (e n start : ℕ) (inside : start ≤ length s) where

@@ -6,7 +6,7 @@ use reader::Number;
 ghost use mathlib.Core.Path.{_≡_};
 ghost use Prim.Native.Nat.{_≤_};
 ghost use lib.ListN.{length};
-ghost use Rattle.arguments.specs.Arguments.{argAt, twoAt, directionOf, wantedOf, typeOf, busOf, flagOf};
+ghost use Rattle.arguments.specs.Arguments.{inRange, argAt, twoAt, directionOf, wantedOf, typeOf, busOf, flagOf};
 ghost use Rattle.arguments.specs.Entries.{heldIn, packetAt};
 
 pub enum BusEvent {
@@ -33,10 +33,10 @@ pub enum Held {
     Cut,
 }
 
-pub fn arg_at(s: &[u8], at: usize, most: u16) -> Arg
-    ensures { λ r. ⌜ r ≡ argAt (now (s .entry)) at most ⌝ }
+fn in_range(n: Number, most: u16) -> Arg
+    ensures { λ r. ⌜ r ≡ inRange most n ⌝ }
 {
-    match reader::number_from(s, at) {
+    match n {
         Number::Value(a, past) => {
             if a <= most {
                 Arg::Got(a, past)
@@ -48,11 +48,21 @@ pub fn arg_at(s: &[u8], at: usize, most: u16) -> Arg
     }
 }
 
+pub fn arg_at(s: &[u8], at: usize, most: u16) -> Arg
+    ensures { λ r. ⌜ r ≡ argAt (now (s .entry)) at most ⌝ }
+{
+    in_range(reader::number_from(s, at), most)
+}
+
+// One reader goes from the first number to the second.
 pub fn two_at(s: &[u8], at: usize, m: u16, n: u16) -> Two
     ensures { λ r. ⌜ r ≡ twoAt (now (s .entry)) at m n ⌝ }
 {
-    match arg_at(s, at, m) {
-        Arg::Got(a, mid) => match arg_at(s, mid, n) {
+    let p = reader::two_from(s, at);
+    let first = p.first;
+    let second = p.second;
+    match in_range(first, m) {
+        Arg::Got(a, _) => match in_range(second, n) {
             Arg::Got(b, past) => Two::Both(a, b, past),
             Arg::No => Two::Neither,
         },

@@ -1,5 +1,5 @@
 // Numbers of an event trace, and the reader that keeps the place (document 01, 'Event trace').
-// Whatever reads a number of a trace reads it by `number_from`: there is no second reader.
+// Whatever reads a number of a trace reads it by `number_from` or `two_from`: there is no second reader.
 ghost use mathlib.Core.Path.{_≡_};
 ghost use Prim.Native.Nat.{_<_};
 ghost use Rattle.reader.specs.Groups.{numberAt, placeAfter};
@@ -18,7 +18,7 @@ fn wide(x: u8) -> u16
 
 // Seven bits a group, low group first, the high bit set on all but the last. A last group of 0 could be left out, and a third one
 // over 3 makes more than 65,535.
-pub fn number_at(s: &[u8], at: usize) -> Number
+fn number_at(s: &[u8], at: usize) -> Number
     ensures { λ r. ⌜ r ≡ numberAt (now (s .entry)) at ⌝ }
 {
     if s.len() <= at {
@@ -95,4 +95,26 @@ pub fn number_from(s: &[u8], at: usize) -> Number
     ensures { λ r. ⌜ r ≡ numberAt (now (s .entry)) at ⌝ }
 {
     next(reader_at(s, at))
+}
+
+// Two numbers in a row. Where the first is none, so is the second.
+pub struct Pair {
+    pub first: Number,
+    pub second: Number,
+}
+
+fn in_a_row(first: Number, second: Number) -> Pair
+    ensures { λ r. ⌜ (r .first ≡ first) × (r .second ≡ second) ⌝ }
+{
+    Pair { first, second }
+}
+
+// Two numbers from a place on, by one reader, which goes from the first to the second.
+pub fn two_from(s: &[u8], at: usize) -> Pair
+    ensures { λ r. ⌜ (r .first ≡ numberAt (now (s .entry)) at) × (r .second ≡ numberAt (now (s .entry)) (placeAfter (now (s .entry)) at)) ⌝ }
+{
+    let r = reader_at(s, at);
+    let a = next(r);
+    let b = next(advance(r));
+    in_a_row(a, b)
 }

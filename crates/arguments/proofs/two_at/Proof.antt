@@ -5,14 +5,17 @@ use borrow.Author.Needs.{needs}
 use Rattle.arguments.proofs.two_at.Statement.{statement}
 use Rattle.arguments.proofs.two_at.Tie as tie
 
-arg-at-requires : tie.Need-arg-at-requires
-arg-at-requires c κs = search needs
+two-from-requires : tie.Need-two-from-requires
+two-from-requires c κs = search needs
+
+in-range-requires : tie.Need-in-range-requires
+in-range-requires c κs = search needs
 
 enum-known-a : tie.Need-enum-known-a
 enum-known-a c = search needs
 
-arg-at-requires-2 : tie.Need-arg-at-requires-2
-arg-at-requires-2 c κs = search needs
+in-range-requires-2 : tie.Need-in-range-requires-2
+in-range-requires-2 c κs = search needs
 
 enum-known-b : tie.Need-enum-known-b
 enum-known-b c = search needs
@@ -36,9 +39,10 @@ pub two-at-spec : {M : Type 1} → statement M
 two-at-spec =
     tie.close
     (tie.spec
-    arg-at-requires
+    two-from-requires
+    in-range-requires
     enum-known-a
-    arg-at-requires-2
+    in-range-requires-2
     enum-known-b
     enum-told
     enum-told-2
