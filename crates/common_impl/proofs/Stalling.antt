@@ -64,11 +64,11 @@ rx-halted b s = record {
 }
 
 -- endpoints 1 to 5: the index, and a store to the side
-module _ (e : ℕ) (b : Bool) (g : Log) (six : Whole (g .regs)) (low : e < 6) where
+module _ (e : ℕ) (b : Bool) (g : Log) (six : Whole (g .regs)) (low : e < 6) (up : e ≡ 0 → ⊥) where
   stalled-by : (d : Direction) (o : Store) (f : Side → Side) → Concerns o d f → register o ≡ csrl d → value o ≡ stallValue d b
       → Halted d b (sideAt (g .regs) e d) (f (sideAt (g .regs) e d)) → Stalls d e b g (does o (writeIndex e g))
   stalled-by d o f t p q y =
-      let k = next low (begin g e d six) o f t in
+      let k = next low (begin g e d six) up o f t in
       record {
         packet = subst (Packet d (sideAt (g .regs) e d)) (sym (k .here)) (y .packet);
         halt = ap (λ (s : Side). s .stall) (k .here) ∙ y .halt;
@@ -87,13 +87,13 @@ module _ (e : ℕ) (b : Bool) (g : Log) (six : Whole (g .regs)) (low : e < 6) wh
         };
       }
 
-  pub tx-stalls : (e ≡ 0 → ⊥) → Stalls In e b g (epTxStall e b g)
+  pub tx-stalls : Stalls In e b g (epTxStall e b g)
   unfolding epTxStall selected writeCsrl
-  tx-stalls n = rw (ne-eqb e 0 n) (stalled-by In (txcsrl (txBits b)) _ (of-txcsrl (txBits b)) refl (tx-stall-number b) (tx-halted b _))
+  tx-stalls = rw (ne-eqb e 0 up) (stalled-by In (txcsrl (txBits b)) _ (of-txcsrl (txBits b)) refl (tx-stall-number b) (tx-halted b _))
 
-  pub rx-stalls : (e ≡ 0 → ⊥) → Stalls Out e b g (epRxStall e b g)
+  pub rx-stalls : Stalls Out e b g (epRxStall e b g)
   unfolding epRxStall selected writeCsrl
-  rx-stalls n = rw (ne-eqb e 0 n) (stalled-by Out (rxcsrl (rxBits b)) _ (of-rxcsrl (rxBits b)) refl (rx-stall-number b) (rx-halted b _))
+  rx-stalls = rw (ne-eqb e 0 up) (stalled-by Out (rxcsrl (rxBits b)) _ (of-rxcsrl (rxBits b)) refl (rx-stall-number b) (rx-halted b _))
 
 -- endpoint 0: the index, and a store to CSR0L with SendStall b and ServicedRxPktRdy t
 module _ (b : Bool) (g : Log) (six : Whole (g .regs)) where
@@ -148,8 +148,8 @@ module _ (b : Bool) (g : Log) (six : Whole (g .regs)) where
           rest = the-rest;
           selected = at;
           lists = record {
-            list = k .list refl ∙ (λ i. listed (start .list i) (start .count i) CSR0L (at i) (v i));
-            count = omega (arith, k .count refl, start .count);
+            list = k .list ∙ (λ i. listed (start .list i) (start .count i) CSR0L (at i) (v i));
+            count = omega (arith, k .count, start .count);
           };
         }
 

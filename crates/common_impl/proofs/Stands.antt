@@ -76,24 +76,24 @@ module _ (g : Log) (e : ℕ) (d : Direction) (six : Whole (g .regs)) where
     count = index-lists e g .1;
   }
 
--- a store that changes the selected endpoint's side of direction c, and nothing else
+-- a store that changes the selected endpoint's side of direction c, and nothing else; endpoint 0 has no such register
 pub record Concerns (o : Store) (c : Direction) (f : Side → Side) : Type 0 where
-  pub side : (i e : ℕ) (d : Direction) (s : Side) → leaves o i e d s ≡ cond (eqb e i) (towards c d f s) s
+  pub side : (i e : ℕ) (d : Direction) (s : Side) → (i ≡ 0 → ⊥) → leaves o i e d s ≡ cond (eqb e i) (towards c d f s) s
   pub number : (q x : ℕ) → writes o q x ≡ x
   pub ended : (b : Bool) → ends o b ≡ b
   pub listed : isListed o ≡ true
 
 pub of-txcsrl : (w : Txcsrl) → Concerns (txcsrl w) In (txStored w)
-of-txcsrl w = record { side = λ i e d s. refl; number = λ q x. refl; ended = λ b. refl; listed = refl }
+of-txcsrl w = record { side = λ i e d s n. rw (ne-eqb i 0 n); number = λ q x. refl; ended = λ b. refl; listed = refl }
 
 pub of-rxcsrl : (w : Rxcsrl) → Concerns (rxcsrl w) Out (rxStored w)
-of-rxcsrl w = record { side = λ i e d s. refl; number = λ q x. refl; ended = λ b. refl; listed = refl }
+of-rxcsrl w = record { side = λ i e d s n. rw (ne-eqb i 0 n); number = λ q x. refl; ended = λ b. refl; listed = refl }
 
 pub of-iso : (d : Direction) → Concerns (iso d) d withIso
-of-iso c = record { side = λ i e d s. refl; number = λ q x. refl; ended = λ b. refl; listed = refl }
+of-iso c = record { side = λ i e d s n. rw (ne-eqb i 0 n); number = λ q x. refl; ended = λ b. refl; listed = refl }
 
 pub of-maxp : (d : Direction) (n : ℕ) → Concerns (maxp d n) d (withMaxp n)
-of-maxp c n = record { side = λ i e d s. refl; number = λ q x. refl; ended = λ b. refl; listed = refl }
+of-maxp c n = record { side = λ i e d s n. rw (ne-eqb i 0 n); number = λ q x. refl; ended = λ b. refl; listed = refl }
 
 both-ways : (d : Direction) (f : Side → Side) (s : Side) → towards d d f s ≡ f s
 both-ways Out f s = refl
@@ -128,17 +128,20 @@ module _ {g : Log} {e : ℕ} {d : Direction} {h : Log} {w : Direction → ℕ} {
   within = rw (k .selected) low
 
   -- such a store
-  module _ (o : Store) (f : Side → Side) (t : Concerns o d f) where
+  module _ (up : e ≡ 0 → ⊥) (o : Store) (f : Side → Side) (t : Concerns o d f) where
+    own : file.index (h .regs) ≡ 0 → ⊥
+    own p = up (sym (k .selected) ∙ p)
+
     abbrev noted : Noted o h (does o h)
     noted = others o h (k .six)
 
     now-here : sideAt (does o h .regs) e d ≡ f s
     now-here =
-        sides o h e d (k .six) within ∙ t .side _ e d _ ∙ rw (eq-eqb e (file.index (h .regs)) (sym (k .selected))) (both-ways d f _)
+        sides o h e d (k .six) within ∙ t .side _ e d _ own ∙ rw (eq-eqb e (file.index (h .regs)) (sym (k .selected))) (both-ways d f _)
         ∙ ap f (k .here)
 
     still : (a : ℕ) (c : Direction) → (a ≡ e → c ≡ d → ⊥) → sideAt (does o h .regs) a c ≡ sideAt (g .regs) a c
-    still a c m = sides o h a c (k .six) within ∙ t .side _ a c _ ∙ go (ℕ-discrete a (file.index (h .regs))) ∙ k .elsewhere a c m
+    still a c m = sides o h a c (k .six) within ∙ t .side _ a c _ own ∙ go (ℕ-discrete a (file.index (h .regs))) ∙ k .elsewhere a c m
       where
         go : Dec (a ≡ file.index (h .regs)) → cond (eqb a (file.index (h .regs))) (towards d c f (sideAt (h .regs) a c)) (sideAt (h .regs) a c) ≡ sideAt (h .regs) a c
         go (yes p) = rw (eq-eqb a (file.index (h .regs)) p) (other-way d c f _ (m (p ∙ k .selected)))
@@ -159,8 +162,8 @@ module _ {g : Log} {e : ℕ} {d : Direction} {h : Log} {w : Direction → ℕ} {
       ended = noted .ended ∙ t .ended _ ∙ k .ended;
       enabled = now-enabled;
       same = rest-kept o h (k .six) (t .number 1) (t .number 2) (t .number 3) (k .same);
-      list = noted .list (t .listed) ∙ (λ i. listed (k .list i) (k .count i) (register o) (now-selected i) (value o));
-      count = noted .count (t .listed) ∙ ap (λ (m : ℕ). m + 1) (k .count);
+      list = noted .list ∙ rw (t .listed) (λ i. listed (k .list i) (k .count i) (register o) (now-selected i) (value o));
+      count = noted .count ∙ rw (t .listed) (ap (λ (m : ℕ). m + 1) (k .count));
     }
 
   -- a store to an enable word
@@ -176,8 +179,8 @@ module _ {g : Log} {e : ℕ} {d : Direction} {h : Log} {w : Direction → ℕ} {
         ended = o .ended ∙ k .ended;
         enabled = words-after c v h w (k .six) (k .enabled);
         same = rest-kept (intre c v) h (k .six) (λ x. far c v 1 x (lit< tt)) (λ x. far c v 2 x (lit< tt)) (λ x. far c v 3 x (lit< tt)) (k .same);
-        list = o .list refl ∙ (λ i. listed (k .list i) (k .count i) (Stores.intre c) (at i) v);
-        count = o .count refl ∙ ap (λ (m : ℕ). m + 1) (k .count);
+        list = o .list ∙ (λ i. listed (k .list i) (k .count i) (Stores.intre c) (at i) v);
+        count = o .count ∙ ap (λ (m : ℕ). m + 1) (k .count);
       }
 
 -- the side and the list by other names

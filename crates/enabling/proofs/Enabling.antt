@@ -122,7 +122,7 @@ ready-flushed {t = t} f =
       missed = b .missed ∙ a .missed ∙ f .missed;
     }
 
-module _ (e size : ℕ) (g : Log) (six : Whole (g .regs)) (low : e < 6) where
+module _ (e size : ℕ) (g : Log) (six : Whole (g .regs)) (low : e < 6) (up : e ≡ 0 → ⊥) where
   abbrev first : Log
   first = writeIndex e g
 
@@ -165,7 +165,7 @@ module _ (e size : ℕ) (g : Log) (six : Whole (g .regs)) (low : e < 6) where
   three d = listed (listed (listed (g .list) (g .count) INDEX e e) (g .count + 1) (Stores.intre d) e (bitOf d)) (g .count + 1 + 1) (Stores.maxp d) e size
 
   sized-side : (d : Direction) → Stands g e d (second d) (known d) (withMaxp size (sideAt (g .regs) e d)) (three d) (g .count + 1 + 1 + 1)
-  sized-side d = next low (enables low (begin g e d six) d (bitOf d)) (maxp d size) (withMaxp size) (of-maxp d size)
+  sized-side d = next low (enables low (begin g e d six) d (bitOf d)) up (maxp d size) (withMaxp size) (of-maxp d size)
 
   -- out: the store of ClrDataTog from zeros drops the packet, so that nothing is left to flush
   abbrev outSide : Side
@@ -177,7 +177,7 @@ module _ (e size : ℕ) (g : Log) (six : Whole (g .regs)) (low : e < 6) where
   out-third : Stands g e Out thirdOut (known Out) (rxStored (rxBits false) outSide) (listed (three Out) (g .count + 1 + 1 + 1) RXCSRL e 128) (g .count + 1 + 1 + 1 + 1)
   out-third =
       as-named refl (ap (λ (v : ℕ). listed (three Out) (g .count + 1 + 1 + 1) RXCSRL e v) (rx-stall-number false))
-      (next low (sized-side Out) (rxcsrl (rxBits false)) (rxStored (rxBits false)) (of-rxcsrl (rxBits false)))
+      (next low (sized-side Out) up (rxcsrl (rxBits false)) (rxStored (rxBits false)) (of-rxcsrl (rxBits false)))
 
   out-halted : Halted Out false outSide (rxStored (rxBits false) outSide)
   out-halted = rx-halted false outSide
@@ -192,7 +192,7 @@ module _ (e size : ℕ) (g : Log) (six : Whole (g .regs)) (low : e < 6) where
       subst (Enables Out e false size g) (sym (flush-rests Out thirdOut (waits-out out-third ∙ out-halted .packet .ready)))
       (enables-by Out false r p out-third (ready-empty (facts out-halted) (λ _. out-halted .packet)) refl (omega arith))
   out-enables true r p =
-      let k = next low out-third (iso Out) withIso (of-iso Out) in
+      let k = next low out-third up (iso Out) withIso (of-iso Out) in
       subst (Enables Out e true size g) (sym (flush-rests Out (does (iso Out) thirdOut) (waits-out k ∙ out-halted .packet .ready)))
       (enables-by Out true r p k
       (ready-empty (iso-facts out-halted) (λ _. record { ready = out-halted .packet .ready; length = out-halted .packet .length })) refl (omega arith))
@@ -207,7 +207,7 @@ module _ (e size : ℕ) (g : Log) (six : Whole (g .regs)) (low : e < 6) where
   in-third : Stands g e In thirdIn (known In) (txStored (txBits false) inSide) (listed (three In) (g .count + 1 + 1 + 1) TXCSRL e 64) (g .count + 1 + 1 + 1 + 1)
   in-third =
       as-named refl (ap (λ (v : ℕ). listed (three In) (g .count + 1 + 1 + 1) TXCSRL e v) (tx-stall-number false))
-      (next low (sized-side In) (txcsrl (txBits false)) (txStored (txBits false)) (of-txcsrl (txBits false)))
+      (next low (sized-side In) up (txcsrl (txBits false)) (txStored (txBits false)) (of-txcsrl (txBits false)))
 
   in-halted : Halted In false inSide (txStored (txBits false) inSide)
   in-halted = tx-halted false inSide
@@ -229,7 +229,7 @@ module _ (e size : ℕ) (g : Log) (six : Whole (g .regs)) (low : e < 6) where
       (ap (λ (s : Side). txStored (txcsrlSet txcsrl-set.FlushFifo (txcsrlOf s)) t) at ∙ tx-flushed t)
       (ap (λ (v : ℕ). listed l n TXCSRL e v)
       (ap (λ (s : Side). txcsrlNumber (txcsrlSet txcsrl-set.FlushFifo (txcsrlOf s))) at ∙ tx-flush-number t a b c ∙ ap (λ (z : Bool). cond z 11 8) p))
-      (next low k (txcsrl bits) (txStored bits) (of-txcsrl bits)))
+      (next low k up (txcsrl bits) (txStored bits) (of-txcsrl bits)))
 
   flush-twice : {x : Log} {w : Direction → ℕ} {b : Bool} {s t : Side} {l : List ℕ} {n : ℕ} → Stands g e In x w t l n → Facts b size s t → t .ready ≡ true
       → Stands g e In (flush In (flush In x)) w (dropped true (dropped true t)) (listed (listed l n TXCSRL e 11) (n + 1) TXCSRL e 8) (n + 1 + 1)
@@ -244,7 +244,7 @@ module _ (e size : ℕ) (g : Log) (six : Whole (g .regs)) (low : e < 6) where
       (enables-by In false false p in-third
       (ready-empty (facts in-halted) (λ y. record { ready = in-halted .packet .ready ∙ p; length = in-halted .packet .length ∙ y p })) refl (omega arith))
   in-enables true false p =
-      let k = next low in-third (iso In) withIso (of-iso In) in
+      let k = next low in-third up (iso In) withIso (of-iso In) in
       subst (Enables In e true size g) (sym (flush-rests In (does (iso In) thirdIn) (waits-in k ∙ in-halted .packet .ready ∙ p)))
       (enables-by In true false p k
       (ready-empty (iso-facts in-halted) (λ y. record { ready = in-halted .packet .ready ∙ p; length = in-halted .packet .length ∙ y p })) refl (omega arith))
@@ -252,7 +252,7 @@ module _ (e size : ℕ) (g : Log) (six : Whole (g .regs)) (low : e < 6) where
       subst (Enables In e false size g) (sym (flush-runs In thirdIn (waits-in in-third ∙ in-halted .packet .ready ∙ p)))
       (enables-by In false true p (flush-twice in-third (facts {s = sideAt (g .regs) e In} in-halted) (in-halted .packet .ready ∙ p)) (ready-flushed (facts in-halted)) refl (omega arith))
   in-enables true true p =
-      let k = next low in-third (iso In) withIso (of-iso In) in
+      let k = next low in-third up (iso In) withIso (of-iso In) in
       subst (Enables In e true size g) (sym (flush-runs In (does (iso In) thirdIn) (waits-in k ∙ in-halted .packet .ready ∙ p)))
       (enables-by In true true p (flush-twice k (iso-facts {s = sideAt (g .regs) e In} in-halted) (in-halted .packet .ready ∙ p)) (ready-flushed (iso-facts in-halted)) refl (omega arith))
 
@@ -260,11 +260,11 @@ module _ (e size : ℕ) (g : Log) (six : Whole (g .regs)) (low : e < 6) where
 module _ (e : ℕ) (config : EndpointConfig) (g : Log) (six : Whole (g .regs)) where
   pub tx-enables : (e ≡ 0 → ⊥) → e < 6 → Enables In e (isochronous (config .«ep_type»)) (config .«tx_max_packet_size») g (epTxEnable e config g)
   unfolding epTxEnable enabled selected enabledOther settled sized writeCsrl
-  tx-enables n low = rw (ne-eqb e 0 n) (rw (modify-intre In e (writeIndex e g)) (in-enables e (config .«tx_max_packet_size») g six low (isochronous (config .«ep_type»)) _ refl))
+  tx-enables n low = rw (ne-eqb e 0 n) (rw (modify-intre In e (writeIndex e g)) (in-enables e (config .«tx_max_packet_size») g six low n (isochronous (config .«ep_type»)) _ refl))
 
   pub rx-enables : (e ≡ 0 → ⊥) → e < 6 → Enables Out e (isochronous (config .«ep_type»)) (config .«rx_max_packet_size») g (epRxEnable e config g)
   unfolding epRxEnable enabled selected enabledOther settled sized writeCsrl
-  rx-enables n low = rw (ne-eqb e 0 n) (rw (modify-intre Out e (writeIndex e g)) (out-enables e (config .«rx_max_packet_size») g six low (isochronous (config .«ep_type»)) _ refl))
+  rx-enables n low = rw (ne-eqb e 0 n) (rw (modify-intre Out e (writeIndex e g)) (out-enables e (config .«rx_max_packet_size») g six low n (isochronous (config .«ep_type»)) _ refl))
 
 -- endpoint 0
 out-in : Out ≡ In → ⊥
@@ -385,16 +385,16 @@ module _ (g : Log) (six : Whole (g .regs)) where
         rest = rest3;
         selected = at3;
         lists = record {
-          list = o3 .list refl ∙ (λ i. listed (list2 i) (count2 i) CSR0H (at3 i) 1) ∙ ap (λ (x : ℕ). listed (listed (listed (listed (g .list) (g .count) INDEX 0 0) (g .count + 1) INTRTXE 0 x) (g .count + 1 + 1) CSR0L 0 (csr0lNumber (csr0lRead (g .regs)) + 192)) (g .count + 1 + 1 + 1) CSR0H 0 1) v;
-          count = omega (arith, o3 .count refl, count2);
+          list = o3 .list ∙ (λ i. listed (list2 i) (count2 i) CSR0H (at3 i) 1) ∙ ap (λ (x : ℕ). listed (listed (listed (listed (g .list) (g .count) INDEX 0 0) (g .count + 1) INTRTXE 0 x) (g .count + 1 + 1) CSR0L 0 (csr0lNumber (csr0lRead (g .regs)) + 192)) (g .count + 1 + 1 + 1) CSR0H 0 1) v;
+          count = omega (arith, o3 .count, count2);
         };
       }
     where
       count2 : h2 .count ≡ g .count + 1 + 1 + 1
-      count2 = others (csr0l bits) h1 (k1 .six) .count refl ∙ ap (λ (m : ℕ). m + 1) (k1 .count)
+      count2 = others (csr0l bits) h1 (k1 .six) .count ∙ ap (λ (m : ℕ). m + 1) (k1 .count)
 
       list2 : h2 .list ≡ listed (listed (listed (g .list) (g .count) INDEX 0 0) (g .count + 1) INTRTXE 0 zeroWord) (g .count + 1 + 1) CSR0L 0 (csr0lNumber (csr0lRead (g .regs)) + 192)
-      list2 = others (csr0l bits) h1 (k1 .six) .list refl ∙ (λ i. listed (k1 .list i) (k1 .count i) CSR0L (at2 i) (value2 i))
+      list2 = others (csr0l bits) h1 (k1 .six) .list ∙ (λ i. listed (k1 .list i) (k1 .count i) CSR0L (at2 i) (value2 i))
 
   pub tx-enables-zero : (config : EndpointConfig) → EnablesZero g (epTxEnable 0 config g)
   unfolding epTxEnable enabled selected enabledZero flushedZero
