@@ -1,3 +1,4 @@
 pub mod Endpoints
 pub mod Allocate
 pub mod Numbers
+pub mod Taken

@@ -1,3 +1,4 @@
 pub mod Halts
 pub mod Others
 pub mod Promises
+pub mod AsWritten

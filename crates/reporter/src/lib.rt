@@ -28,7 +28,7 @@ fn line_buffer() -> [u8; 8192]
 }
 
 // The report's only way out: the bytes are those that the report has at the place `done`, and the place moves past them. One place goes through
-// all calls, from 0 to the report's length (`put_report`), so that the report is written from its first byte to its last and nothing twice.
+// all calls, from 0 to the report's length (`put_report`): the report's bytes in their order. That nothing else moves the place is to be seen here.
 // What a call of the system then writes no contract can say.
 fn put(trace: &[u8], k: Record, first: &[u8; 1664], done: &mut usize, line: &[u8], len: usize)
     requires { ⌜ (len ≤ length (now line)) × (now done + len ≤ 1000000000) × Has (beginning k (now first)) (now trace) (now done) (take len (now line)) ⌝ }

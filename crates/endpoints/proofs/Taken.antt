@@ -1,0 +1,91 @@
+-- The test of reply 4 says what its row says.
+-- Assumes nothing.
+use mathlib.Core.Path.{_≡_, refl, sym, ap, _∙_}
+use mathlib.Core.Bool.{Bool, true, false, not, _&&_, _||_}
+use Rattle.board.specs.declared.Direction.{Direction}
+use Rattle.board.specs.declared.Direction.the-variants.{Out, In}
+use Rattle.endpoints.specs.declared.EndpointType.{EndpointType}
+use Rattle.endpoints.specs.declared.EndpointType.the-variants.{Control, Isochronous, Bulk, Interrupt}
+use Rattle.endpoints.specs.declared.EndpointData.{EndpointData}
+use Rattle.endpoints.specs.Endpoints.{sameType, kindOf, used, usedIn}
+use Rattle.endpoints.specs.Allocate.{taken}
+use Rattle.endpoints.specs.Taken.{Marked, Taken, bulk, another, same}
+use Rattle.endpoints.proofs.Answers.{clash}
+
+or-true : (a : Bool) → (a || true) ≡ true
+or-true true = refl
+or-true false = refl
+
+self : (a : EndpointType) → sameType a a ≡ true
+self Control = refl
+self Isochronous = refl
+self Bulk = refl
+self Interrupt = refl
+
+is-bulk : (a : EndpointType) → sameType a Bulk ≡ true → a ≡ Bulk
+is-bulk Control h = absurd (clash h)
+is-bulk Isochronous h = absurd (clash h)
+is-bulk Bulk h = refl
+is-bulk Interrupt h = absurd (clash h)
+
+same-type : (a b : EndpointType) → sameType a b ≡ true → a ≡ b
+same-type Control Control h = refl
+same-type Control Isochronous h = absurd (clash h)
+same-type Control Bulk h = absurd (clash h)
+same-type Control Interrupt h = absurd (clash h)
+same-type Isochronous Control h = absurd (clash h)
+same-type Isochronous Isochronous h = refl
+same-type Isochronous Bulk h = absurd (clash h)
+same-type Isochronous Interrupt h = absurd (clash h)
+same-type Bulk Control h = absurd (clash h)
+same-type Bulk Isochronous h = absurd (clash h)
+same-type Bulk Bulk h = refl
+same-type Bulk Interrupt h = absurd (clash h)
+same-type Interrupt Control h = absurd (clash h)
+same-type Interrupt Isochronous h = absurd (clash h)
+same-type Interrupt Bulk h = absurd (clash h)
+same-type Interrupt Interrupt h = refl
+
+mark : (e : EndpointData) (d : Direction) → usedIn e d ≡ true → Marked e d
+mark e Out p = p
+mark e In p = p
+
+unmark : (e : EndpointData) (d : Direction) → Marked e d → usedIn e d ≡ true
+unmark e Out p = p
+unmark e In p = p
+
+used-by : (e : EndpointData) → used e ≡ true → (c : Direction) × Marked e c
+used-by e h = go (e .«used_rx») refl
+  where
+    go : (a : Bool) → e .«used_rx» ≡ a → (c : Direction) × Marked e c
+    go true p = (Out, p)
+    go false p = (In, ap (λ (a : Bool). a || e .«used_tx») (sym p) ∙ h)
+
+in-use : (e : EndpointData) (c : Direction) → Marked e c → used e ≡ true
+in-use e Out p = rw p
+in-use e In p = rw p (or-true (e .«used_rx»))
+
+module _ (e : EndpointData) (k : EndpointType) (d : Direction) where
+  pub taken-is : taken e k d ≡ true → Taken e k d
+  unfolding taken
+  taken-is h = go (sameType k Bulk) (sameType (kindOf e) k) (used e) (usedIn e d) refl refl refl refl h
+    where
+      go : (a b u m : Bool) → sameType k Bulk ≡ a → sameType (kindOf e) k ≡ b → used e ≡ u → usedIn e d ≡ m
+          → ((a && u) || (u && (not b || m))) ≡ true → Taken e k d
+      go true b true m p q r s h = let x = used-by e r in bulk (x .0) (is-bulk k p) (x .1)
+      go true b false m p q r s h = absurd (clash h)
+      go false b false m p q r s h = absurd (clash h)
+      go false false true m p q r s h =
+          let x = used-by e r in another (x .0) (x .1) (λ t. clash (sym q ∙ (ap (λ (z : EndpointType). sameType z k) t ∙ self k)))
+      go false true true true p q r s h = same (mark e d s)
+      go false true true false p q r s h = absurd (clash h)
+
+  pub is-taken : Taken e k d → taken e k d ≡ true
+  unfolding taken
+  is-taken (bulk c p m) = rw (p, in-use e c m)
+  is-taken (another c m n) = go (sameType (kindOf e) k) refl
+    where
+      go : (b : Bool) → sameType (kindOf e) k ≡ b → ((sameType k Bulk && used e) || (used e && (not (sameType (kindOf e) k) || usedIn e d))) ≡ true
+      go true q = absurd (n (same-type (kindOf e) k q))
+      go false q = rw (in-use e c m, q) (or-true (sameType k Bulk && true))
+  is-taken (same m) = rw (in-use e d m, unmark e d m, or-true (not (sameType (kindOf e) k))) (or-true (sameType k Bulk && true))
