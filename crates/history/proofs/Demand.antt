@@ -34,7 +34,7 @@ use Rattle.history.proofs.Polls.{poll-answered}
 use Rattle.history.proofs.Arrivals.{arrival-answered}
 use Rattle.history.proofs.Interrupts.{interrupt-answered}
 use Rattle.history.proofs.Steps.{does, one-place}
-use Rattle.history.proofs.Packets.{high, counted, none-waits, lasts}
+use Rattle.history.proofs.Packets.{high, counted, none-waits, lasts, calls-take}
 use Rattle.history.proofs.Fetching.{read-answered}
 
 -- the customer's "1 to 5": the display's highest endpoint
@@ -77,7 +77,12 @@ module _ (b : Board) where
 
   -- what arrived waits until it is taken
   pub until-taken : UntilTaken (driver b)
-  until-taken = record { first = λ e ep. none-waits b e; each = λ e ep h o. lasts b (after (driver b) h) (good-after lawful h) e ep o }
+  until-taken =
+      record {
+        first = λ e ep. none-waits b e;
+        each = λ e ep h o. lasts b (after (driver b) h) (good-after lawful h) e ep o;
+        takers = λ e ep h o. calls-take (after (driver b) h) o e;
+      }
 
   pub still-there : StillThere (driver b)
   still-there = unless-taken until-taken

@@ -6,7 +6,7 @@ use Prim.Native.Nat.{ℕ, _<_}
 use native.Mathlib.Omega.{arith}
 use native.Mathlib.Decide.{ℕ-discrete}
 use borrow.Author.Tests.{eq-eqb, ne-eqb}
-use lib.Dec.{eqb}
+use lib.Dec.{T, eqb}
 use lib.ListN.{length}
 use Rattle.laws.proofs.Tests.{and-one}
 use Rattle.board.specs.declared.Board.{Board}
@@ -32,7 +32,7 @@ use Rattle.calls.proofs.Writing as writing
 use Rattle.calls.proofs.Polling as polling
 use Rattle.calls.proofs.Happening as happening
 use Rattle.calls.proofs.Remains.{careful-remain, event-remain, interrupt-remain, read-remain, stall-remain, stall-in-remain, reset-remain}
-use Rattle.rounds.specs.Machine.{Event, arrivesAt}
+use Rattle.rounds.specs.Machine.{Event, quiet, arrivesAt}
 use Rattle.rounds.specs.Sentences.{Endpoint}
 use Rattle.rounds.proofs.Tests.{is-down}
 use Rattle.history.specs.Driver.{pollEvent, interruptEvent, arrivalEvent, event, waiting, takes, driver}
@@ -128,3 +128,26 @@ module _ (b : Board) (k : Record) (kept : Kept b k) (e : ℕ) (ep : Endpoint (dr
   lasts setupEnd = event-remain k six (λ j s. refl) (happening.setup-end k) .ready e high
   lasts (underrun i) = event-remain k six (missed i In) (happening.underrun k i) .ready e high
   lasts (overrun i) = event-remain k six (missed i Out) (happening.overrun k i) .ready e high
+
+-- what takes is a call that is asked for: no poll, no interrupt, no arrival
+pub calls-take : (k : Record) (o : Op) (e : ℕ) → T (takes k o e) → event k o ≡ quiet
+calls-take k (read i b f l) e t = refl
+calls-take k (setStalled i d s l) e t = refl
+calls-take k (reset l) e t = refl
+calls-take k (allocEp q w) e t = refl
+calls-take k (busInit l) e t = refl
+calls-take k (enable l) e t = refl
+calls-take k (setDeviceAddress a l) e t = refl
+calls-take k (write i b f l) e t = refl
+calls-take k (isStalled i d l) e t = refl
+calls-take k (poll l) e t = absurd t
+calls-take k onInterrupt e t = absurd t
+calls-take k forceReset e t = refl
+calls-take k (arrival i b f) e t = absurd t
+calls-take k (collection i f) e t = refl
+calls-take k busReset e t = refl
+calls-take k suspend e t = refl
+calls-take k resume e t = refl
+calls-take k setupEnd e t = refl
+calls-take k (underrun i) e t = refl
+calls-take k (overrun i) e t = refl

@@ -303,8 +303,22 @@ module _ (top : ℕ) where
       at (all-wait s (s .bus .reset) (s .bus .resume) (s .bus .suspend)) e
       ∙ (λ x. sym (is-down (arrivesAt e (honest top s .event)) (none-comes s e)) x || and-true (s .ready e) x)
 
+  -- only a read takes
+  reads-take : (s : State) (o : Op) (e : ℕ) → T (takes top taken (honest top) s o e) → event top taken (honest top) s o ≡ quiet
+  reads-take s (arrive i) e t = absurd t
+  reads-take s (collect i) e t = absurd t
+  reads-take s (take i) e t = refl
+  reads-take s (raise b) e t = absurd t
+  reads-take s irq e t = absurd t
+  reads-take s poll e t = absurd t
+
   pub honest-until-taken : UntilTaken (small top (honest top))
-  honest-until-taken = record { first = λ e ep. refl; each = λ e ep h o. lasts (after (small top (honest top)) h) o e }
+  honest-until-taken =
+      record {
+        first = λ e ep. refl;
+        each = λ e ep h o. lasts (after (small top (honest top)) h) o e;
+        takers = λ e ep h o. reads-take (after (small top (honest top)) h) o e;
+      }
 
   comes : (e : ℕ) (b : Bool) → T b → T (arrivesAt e (cond b (arrival e) quiet))
   comes e true t = eqb-refl e

@@ -1,13 +1,14 @@
 -- Each sham breaks a sentence: a history that shows it, computed, on a machine with the display's endpoints.
 -- Assumes nothing.
-use mathlib.Core.Path.{refl}
+use mathlib.Core.Path.{refl, ap}
 use mathlib.Core.Bool.{true≢false, false≢true}
 use mathlib.Core.List.{[], _∷_}
 use Prim.Native.Nat.{ℕ}
 use native.Mathlib.Nat.{not-suc-le-zero}
 use native.Mathlib.Omega.{arith}
+use Rattle.rounds.specs.Machine.{isRound}
 use Rattle.rounds.specs.Sentences.{Endpoint, Named, FewFalse, SentExactly, UntilTaken, ThirdIsRound, NotEmpty}
-use Rattle.rounds.specs.Shams.{State, Polled, arrive, collect, take, irq, poll, taken, calls, display, neverClears, clearsWaiting, keepsSent, hidesReceive, hidesSent, repeats, throwsAway, throwsTaken, alwaysNone, alwaysReset, refuses}
+use Rattle.rounds.specs.Shams.{State, Polled, arrive, collect, take, irq, poll, taken, calls, display, neverClears, clearsWaiting, keepsSent, hidesReceive, hidesSent, repeats, throwsAway, throwsTaken, callsTakers, alwaysNone, alwaysReset, refuses}
 
 one : (ask : (top : ℕ) → State → Polled) → Endpoint (display ask) 1
 one ask = record { low = omega arith; high = omega arith }
@@ -44,6 +45,10 @@ throwsAway-out lasts = false≢true (lasts .each 1 (one throwsAway) (arrive 1 �
 
 pub throwsTaken-out : UntilTaken (throwsTaken 5) → ⊥
 throwsTaken-out lasts = false≢true (lasts .each 1 (record { low = omega arith; high = omega arith }) (arrive 1 ∷ []) irq)
+
+-- a poll is no taker
+pub callsTakers-out : UntilTaken callsTakers → ⊥
+callsTakers-out lasts = true≢false (ap isRound (lasts .takers 1 (record { low = omega arith; high = omega arith }) [] poll tt))
 
 -- three polls with nothing taken at all
 pub alwaysReset-out : ThirdIsRound (display alwaysReset) → ⊥

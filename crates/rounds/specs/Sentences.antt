@@ -5,7 +5,7 @@ use mathlib.Core.Bool.{Bool, true, false, not, _&&_, _||_}
 use mathlib.Core.List.{List, _∷_}
 use Prim.Native.Nat.{ℕ, suc, _≤_}
 use lib.Dec.{T}
-use Rattle.rounds.specs.Machine.{Event, Machine, isRound, isAnsweredPoll, isInterrupt, takesSuspend, readsSent, names, namesSent, arrivesAt, run, after, some, Stays, taken, falseNamings, arrivalsAbove, endsInRound}
+use Rattle.rounds.specs.Machine.{Event, quiet, Machine, isRound, isAnsweredPoll, isInterrupt, takesSuspend, readsSent, names, namesSent, arrivesAt, run, after, some, Stays, taken, falseNamings, arrivalsAbove, endsInRound}
 
 module _ (M : Machine) where
   abbrev History : Type 0
@@ -98,6 +98,8 @@ module _ (M : Machine) where
         (e : ℕ) → Endpoint e → (h : History) (o : M .Op)
         → M .waiting (M .step (after M h) o) e
         ≡ (arrivesAt e (M .event (after M h) o) || (M .waiting (after M h) e && not (M .takes (after M h) o e)))
+    -- What takes is no poll, no interrupt and no arrival, or a machine could call its polls takers.
+    pub takers : (e : ℕ) → Endpoint e → (h : History) (o : M .Op) → T (M .takes (after M h) o e) → M .event (after M h) o ≡ quiet
 
   -- So a packet that arrived, and that nothing has taken since, is still waiting: sentence 1's premise `still` holds of it.
   abbrev pub StillThere : Type 0

@@ -230,3 +230,9 @@ throwsTaken top = machine top (λ s. thrown (taken s)) (honest top)
 -- the small machine with the display's endpoints, polled by one of these
 abbrev pub display : ((top : ℕ) → State → Polled) → Machine
 display ask = small 5 (ask 5)
+
+-- throws every packet away, and calls its polls takers
+abbrev pub callsTakers : Machine
+callsTakers =
+    let M = display throwsAway in
+    record { top = M .top; State = M .State; Op = M .Op; fresh = M .fresh; step = M .step; event = M .event; waiting = M .waiting; takes = λ s o e. true }
