@@ -13,8 +13,8 @@ use Rattle.csr.specs.declared.Csr0l.{Csr0l}
 use Rattle.csr.specs.declared.Txcsrl.{Txcsrl}
 use Rattle.csr.specs.declared.Rxcsrl.{Rxcsrl}
 use Rattle.csr.specs.Control.{csr0lBits, txcsrlBits, rxcsrlBits, txStored, rxStored, zeroTxStored, dropped}
-use Rattle.csr.proofs.AsWritten.{tx-stall, rx-stall, zero-stall, sent-cleared, underrun-cleared, ready-kept, packet-kept, rx-sent-cleared, overrun-cleared, rx-cleared, drops}
-use Rattle.csr.proofs.Stored.{tx-rest, rx-rest, not-dropped, zero-ready-kept, zero-packet-kept, zero-sent-cleared, tx-stall-number, rx-stall-number, zero-stall-number}
+use Rattle.csr.proofs.AsWritten.{tx-stall, rx-stall, zero-stall, sent-cleared, underrun-cleared, ready-kept, packet-kept, rx-sent-cleared, overrun-cleared, rx-cleared, drops, tx-rest, rx-rest, zero-ready-kept, zero-sent-cleared}
+use Rattle.csr.proofs.Stored.{not-dropped, zero-packet-kept, tx-stall-number, rx-stall-number, zero-stall-number}
 use Rattle.register_file.specs.Registers as file
 use Rattle.register_file.specs.Registers.{Whole, sideAt}
 use Rattle.store_list.specs.Stores.{listed, INDEX, CSR0L}

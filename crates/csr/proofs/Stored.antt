@@ -1,26 +1,15 @@
--- What a store to a control register leaves alone of its side, and the numbers that the list has of the driver's own stores.
+-- What a drop and a store to CSR0L leave alone of a side, and the numbers that the list has of the driver's own stores.
 -- Assumes nothing.
 use Prim.Native.Nat.{ℕ, _+_}
 use mathlib.Core.Path.{_≡_, refl}
 use mathlib.Core.Bool.{Bool, true, false, not, cond}
 use native.Mathlib.Omega.{arith}
-use Rattle.laws.proofs.Tests.{and-zero, and-one, or-zero}
+use Rattle.laws.proofs.Tests.{and-one}
 use Rattle.csr.specs.declared.Side.{Side}
 use Rattle.csr.specs.declared.Csr0l.{Csr0l}
-use Rattle.csr.specs.declared.Txcsrl.{Txcsrl}
-use Rattle.csr.specs.declared.Rxcsrl.{Rxcsrl}
 use Rattle.csr.specs.declared.Csr0lSet.the-variants as csr0l
 use Rattle.csr.specs.declared.TxcsrlSet.the-variants as txcsrl
-use Rattle.csr.specs.Control.{txStored, rxStored, zeroTxStored, dropped, csr0lNumber, txcsrlNumber, rxcsrlNumber, csr0lBits, txcsrlBits, rxcsrlBits, csr0lSet, txcsrlOf, txcsrlSet}
-
--- ISO and the size
-pub tx-rest : (w : Txcsrl) (s : Side) → (txStored w s .iso ≡ s .iso) × (txStored w s .maxp ≡ s .maxp)
-unfolding txStored
-tx-rest w s = (refl, refl)
-
-pub rx-rest : (w : Rxcsrl) (s : Side) → (rxStored w s .iso ≡ s .iso) × (rxStored w s .maxp ≡ s .maxp)
-unfolding rxStored
-rx-rest w s = (refl, refl)
+use Rattle.csr.specs.Control.{zeroTxStored, dropped, csr0lNumber, txcsrlNumber, rxcsrlNumber, csr0lBits, txcsrlBits, rxcsrlBits, csr0lSet, txcsrlOf, txcsrlSet}
 
 -- a packet goes, and nothing else
 pub record Rest (s t : Side) : Type 0 where
@@ -38,19 +27,10 @@ pub not-dropped : (s : Side) → dropped false s ≡ s
 unfolding dropped
 not-dropped s = rw (and-one (s .ready))
 
--- endpoint 0's transmit side: "A written 1 sets TxPktRdy; a written 0 changes nothing", "SentStall .. cleared by a written 0"
-module _ (w : Csr0l) (s : Side) where
-  pub zero-ready-kept : w .«tx_pkt_rdy» ≡ false → zeroTxStored w s .ready ≡ s .ready
-  unfolding zeroTxStored
-  zero-ready-kept e = rw e (or-zero (s .ready))
-
-  pub zero-packet-kept : zeroTxStored w s .len ≡ s .len
-  unfolding zeroTxStored
-  zero-packet-kept = refl
-
-  pub zero-sent-cleared : w .«sent_stall» ≡ false → zeroTxStored w s .stalled ≡ false
-  unfolding zeroTxStored
-  zero-sent-cleared e = rw e (and-zero (s .stalled))
+-- endpoint 0's transmit side: no store to CSR0L takes its packet
+pub zero-packet-kept : (w : Csr0l) (s : Side) → zeroTxStored w s .len ≡ s .len
+unfolding zeroTxStored
+zero-packet-kept w s = refl
 
 -- SendStall is bit 4 of TXCSRL and bit 5 of RXCSRL, ClrDataTog bit 6 and bit 7: a `write` from zeros that sets the one or the other
 pub tx-stall-number : (s : Bool) → txcsrlNumber (txcsrlBits false false false false s false (not s)) ≡ cond s 16 64
