@@ -47,7 +47,8 @@ use Rattle.entries.specs.declared.Entry.the-variants.{Write, Read, Arrival}
 use Rattle.entries.specs.Entries.{codeOf}
 use Rattle.answers.specs.Shown.{Gives, wroteFits, gotFits}
 use Rattle.answers.specs.declared.Acted.{Acted}
-use Rattle.act.specs.Act.{state, called, told, allocated, written, fetched, polled, interrupted, happened, arrived, collected, packet, actedOn, acted, Acts, Within}
+use Rattle.entries.specs.Entries.{Within}
+use Rattle.act.specs.Act.{state, called, told, allocated, written, fetched, polled, interrupted, happened, arrived, collected, packet, actedOn, acted, Acts}
 
 handed-on : (s : List ℕ) (start n : ℕ) → take (start + n - start) (drop start s) ≡ packet s start n
 handed-on s start n = ap (λ (m : ℕ). take m (drop start s)) (add-sub-cancel-left start n)

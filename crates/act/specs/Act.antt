@@ -154,23 +154,3 @@ pub record Lent (trace fifo line : List ℕ) : Type 0 where
   pub short : length trace ≤ 65536
   pub memory : length fifo ≤ 2000
   pub room : 8192 ≤ length line
-
--- an entry as `entry_at` finds it: its packet lies inside the trace, and a read's buffer has at most 512 bytes
-abbrev pub Within : List ℕ → Entry → Type 0
-Within s (Allocate d w t n) = Unit {0}
-Within s Init = Unit {0}
-Within s Reset = Unit {0}
-Within s (Address a) = Unit {0}
-Within s (Write e start n) = start + n ≤ length s
-Within s (Read e n) = n ≤ 512
-Within s (Stall e d on) = Unit {0}
-Within s (IsStalled e d) = Unit {0}
-Within s Poll = Unit {0}
-Within s Interrupt = Unit {0}
-Within s Enable = Unit {0}
-Within s (Arrival e start n) = start + n ≤ length s
-Within s (Collect e) = Unit {0}
-Within s (Bus b) = Unit {0}
-Within s SetupEnd = Unit {0}
-Within s (Underrun e) = Unit {0}
-Within s (Overrun e) = Unit {0}

@@ -9,7 +9,8 @@ ghost use Prim.Native.Nat.{_≤_};
 ghost use lib.ListN.{length, replicate};
 ghost use Rattle.entries.specs.Entries.{codeOf};
 ghost use Rattle.usb_device_read.specs.Read.{readCall};
-ghost use Rattle.act.specs.Act.{state, acted, fetched, busCall, Acts, Lent, Within};
+ghost use Rattle.entries.specs.Entries.{Within};
+ghost use Rattle.act.specs.Act.{state, acted, fetched, busCall, Acts, Lent};
 
 // The longest buffer that an entry can ask a read for.
 fn zeros() -> [u8; 512]

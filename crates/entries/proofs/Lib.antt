@@ -2,3 +2,4 @@ pub mod Cases
 pub mod Ranges
 pub mod Inside
 pub mod Codes
+pub mod Found

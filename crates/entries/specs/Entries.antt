@@ -1,6 +1,6 @@
 -- The entries of a trace. Document 01: "Codes and arguments", each argument's range as it stands there.
 -- Assumes nothing.
-use Prim.Native.Nat.{ℕ, _+_}
+use Prim.Native.Nat.{ℕ, _+_, _≤_}
 use mathlib.Core.List.{List}
 use mathlib.Core.Bool.{cond}
 use lib.Dec.{leb, eqb}
@@ -126,3 +126,23 @@ codeOf (Bus a) = 14
 codeOf SetupEnd = 15
 codeOf (Underrun a) = 16
 codeOf (Overrun a) = 17
+
+-- an entry as `entry_at` finds it: its packet lies inside the trace, and a read's buffer has at most 512 bytes
+abbrev pub Within : List ℕ → Entry → Type 0
+Within s (Allocate d w t n) = Unit {0}
+Within s Init = Unit {0}
+Within s Reset = Unit {0}
+Within s (Address a) = Unit {0}
+Within s (Write e start n) = start + n ≤ length s
+Within s (Read e n) = n ≤ 512
+Within s (Stall e d on) = Unit {0}
+Within s (IsStalled e d) = Unit {0}
+Within s Poll = Unit {0}
+Within s Interrupt = Unit {0}
+Within s Enable = Unit {0}
+Within s (Arrival e start n) = start + n ≤ length s
+Within s (Collect e) = Unit {0}
+Within s (Bus b) = Unit {0}
+Within s SetupEnd = Unit {0}
+Within s (Underrun e) = Unit {0}
+Within s (Overrun e) = Unit {0}

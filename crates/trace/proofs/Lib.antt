@@ -1,4 +1,3 @@
-pub mod Found
 pub mod Once
 pub mod Steps
 pub mod Whole

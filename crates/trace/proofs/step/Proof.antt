@@ -2,7 +2,7 @@
 -- Assumes nothing.
 use denote.Ref.{now}
 use Rattle.trace.proofs.Steps.{carried-out, at-end, at-bad, moves-on}
-use Rattle.trace.proofs.Found.{within}
+use Rattle.entries.proofs.Found.{within}
 use borrow.Author.Needs.{needs}
 use Rattle.trace.proofs.step.Statement.{statement}
 use Rattle.trace.proofs.step.Tie as tie
