@@ -12,11 +12,11 @@ use Rattle.endpoints.specs.declared.EndpointAllocError.{EndpointAllocError}
 use Rattle.endpoints.specs.declared.Wanted.{Wanted}
 use Rattle.endpoints.specs.declared.Answer.{Answer}
 use Rattle.endpoints.specs.declared.Answer.the-variants.{Done, Refused}
-use Rattle.endpoints.specs.Endpoints.{Ask, blank, granted}
+use Rattle.endpoints.specs.Endpoints.{Granted, Ask, blank, granted}
 use Rattle.alloc_endpoint.specs.Allocate.{answerTo, after, allocate}
 use Rattle.endpoints.specs.Allocate.{given}
 use Rattle.alloc_endpoint.proofs.Answers.{in-table}
-use Rattle.endpoints.proofs.Changes.{Granted, by-way}
+use Rattle.endpoints.proofs.Changes.{by-way}
 
 module _ (t : List Row) (es : List EndpointData) (q : Ask) (w : Wanted) where
   -- document 01: "A refusal returns its number and changes nothing"

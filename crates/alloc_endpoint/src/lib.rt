@@ -12,7 +12,7 @@ ghost use mathlib.Core.Path.{_≡_};
 ghost use Prim.Native.Nat.{_<_};
 ghost use Rattle.board.specs.Boards.{rows};
 ghost use Rattle.endpoints.specs.Endpoints.{ask};
-ghost use Rattle.endpoints.specs.Allocate.{checked, passes, given};
+ghost use Rattle.endpoints.specs.Allocate.{given};
 ghost use Rattle.alloc_endpoint.specs.Allocate.{checkAt, answerTo, allocate};
 
 pub struct Allocated {

@@ -1,6 +1,5 @@
 // The line of an entry that was carried out: its code, and the reply and values of its answer (document 01, 'Event trace').
 // A refused entry shows code and reply only. Each function gives the length of its line, which stands at the front of the lent buffer.
-use endpoints::EndpointAllocError;
 use host::Collected;
 use host::Happened;
 use host::Host;
@@ -15,7 +14,6 @@ use usb_device_impl::Called;
 use usb_device_impl::Reply;
 use usb_device_interrupt::Interrupted;
 use usb_device_interrupt::OnInterrupt;
-use usb_device_poll::Masks;
 use usb_device_poll::PollAnswer;
 use usb_device_poll::PollResult;
 use usb_device_poll::Polled;

@@ -1,14 +1,18 @@
--- The test of reply 4 says what its row says.
+-- The tests of replies 4 and 5 say what their rows say.
 -- Assumes nothing.
+use Prim.Native.Nat.{_<_}
 use mathlib.Core.Path.{_≡_, refl, sym, ap, _∙_}
 use mathlib.Core.Bool.{Bool, true, false, not, _&&_, _||_}
+use mathlib.Core.Logic.{_↔_}
+use borrow.Author.Tests.{ltb-true, lt-ltb}
+use Rattle.board.specs.declared.Row.{Row}
 use Rattle.board.specs.declared.Direction.{Direction}
 use Rattle.board.specs.declared.Direction.the-variants.{Out, In}
 use Rattle.endpoints.specs.declared.EndpointType.{EndpointType}
 use Rattle.endpoints.specs.declared.EndpointType.the-variants.{Control, Isochronous, Bulk, Interrupt}
 use Rattle.endpoints.specs.declared.EndpointData.{EndpointData}
-use Rattle.endpoints.specs.Endpoints.{sameType, kindOf, used, usedIn}
-use Rattle.endpoints.specs.Allocate.{taken}
+use Rattle.endpoints.specs.Endpoints.{Ask, sameType, kindOf, used, usedIn}
+use Rattle.endpoints.specs.Allocate.{taken, overSize}
 use Rattle.endpoints.specs.Taken.{Marked, Taken, bulk, another, same}
 use Rattle.endpoints.proofs.Answers.{clash}
 
@@ -89,3 +93,7 @@ module _ (e : EndpointData) (k : EndpointType) (d : Direction) where
       go true q = absurd (n (same-type (kindOf e) k q))
       go false q = rw (in-use e c m, q) (or-true (sameType k Bulk && true))
   is-taken (same m) = rw (in-use e d m, unmark e d m, or-true (not (sameType (kindOf e) k))) (or-true (sameType k Bulk && true))
+
+-- reply 5, "size over the table's"
+pub over-size : (r : Row) (q : Ask) → overSize r q ≡ true ↔ r .size < q .size
+over-size r q = (ltb-true (r .size) (q .size), lt-ltb (r .size) (q .size))

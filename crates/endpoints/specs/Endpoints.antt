@@ -1,6 +1,7 @@
 -- One endpoint's record: its type, and a size and a mark for each direction.
 -- Assumes nothing.
 use Prim.Native.Nat.{ℕ}
+use mathlib.Core.Path.{_≡_}
 use mathlib.Core.Bool.{Bool, true, false, _||_}
 use lib.Dec.{eqb}
 use Rattle.board.specs.declared.Direction.{Direction}
@@ -68,3 +69,15 @@ marked e k In n =
 
 unfoldable pub granted : EndpointData → Ask → EndpointData
 granted e q = marked e (q .kind) (q .way) (q .size)
+
+abbrev pub opposite : Direction → Direction
+opposite Out = In
+opposite In = Out
+
+-- the same in the sentence's own words: next is what becomes of e
+pub record Granted (e next : EndpointData) (q : Ask) : Type 0 where
+  pub kind : kindOf next ≡ q .kind
+  pub size : sizeIn next (q .way) ≡ q .size
+  pub mark : usedIn next (q .way) ≡ true
+  pub other-size : sizeIn next (opposite (q .way)) ≡ sizeIn e (opposite (q .way))
+  pub other-mark : usedIn next (opposite (q .way)) ≡ usedIn e (opposite (q .way))

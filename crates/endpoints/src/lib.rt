@@ -2,12 +2,11 @@
 use board::Board;
 use board::Direction;
 ghost use mathlib.Core.Path.{_≡_};
-ghost use Prim.Native.Nat.{_<_};
 ghost use Rattle.board.specs.Table.{rowAt};
 ghost use Rattle.board.specs.Boards.{rows};
 ghost use Rattle.endpoints.specs.Endpoints.{typeNumber, sameType, fresh, usedIn, ask, granted};
-ghost use Rattle.endpoints.specs.Allocate.{taken, checked, passes, given};
-ghost use Rattle.endpoints.specs.Numbers.{errorNumber, answerNumber, usbError};
+ghost use Rattle.endpoints.specs.Allocate.{taken, checked, passes};
+ghost use Rattle.endpoints.specs.Numbers.{errorNumber, usbError};
 
 pub enum EndpointType {
     Control,
@@ -192,16 +191,6 @@ pub fn error_number(e: EndpointAllocError) -> u8
         EndpointAllocError::EpDirNotSupported => 3,
         EndpointAllocError::EpUsed => 4,
         EndpointAllocError::MaxPacketSizeBiggerThanEpFifoSize => 5,
-    }
-}
-
-// Document 01's number of an answer.
-pub fn answer_number(a: Answer) -> u8
-    ensures { λ r. ⌜ r ≡ answerNumber a ⌝ }
-{
-    match a {
-        Answer::Done(_) => 0,
-        Answer::Refused(e) => error_number(e),
     }
 }
 

@@ -13,10 +13,10 @@ use Rattle.event_rules.specs.Events.{arrived, busReset, busSuspend, busResume, 
 use Rattle.record.specs.declared.Record.{Record}
 use Rattle.record.specs.declared.Admission.{Admission}
 use Rattle.record.specs.declared.Admission.the-variants.{Clear, Refused}
-use Rattle.record.specs.Record.{recordSound, admissionBy, endpointsOf, areaOf, needOf}
+use Rattle.record.specs.Record.{admissionNumber, recordSound, admissionBy, endpointsOf, areaOf, needOf}
 use Rattle.record.specs.Rows.{Row, Given}
 use Rattle.record.proofs.Numbers.{not-zero}
-use Rattle.record.proofs.Rows.{exactly, none-left, tested, tells-under, tells-from, tells-is, tells-set, tells-clear, tells-bad, tells-either, admissionNumber, first-named, first-plain}
+use Rattle.record.proofs.Rows.{exactly, none-left, tested, tells-under, tells-from, tells-is, tells-set, tells-clear, tells-bad, tells-either, first-named, first-plain}
 use Rattle.host.specs.declared.Taken.the-variants as taken
 use Rattle.host.specs.declared.Collected.{Collected}
 use Rattle.host.specs.Host.{done, unless, beyond, busResetCall, suspendCall, resumeCall, setupEndCall, missRefusal, missCall, underrunCall, overrunCall, entryAt, arrivalBy, arrivalRefusalIn, arrivalRefusal, Arrival, unlessArrived, arrivalCall, collectionBy, collectionRefusalIn, collectionRefusal, collectedFrom, unlessCollected, collectionCall, happenedNumber, takenNumber}

@@ -17,7 +17,7 @@ ghost use Rattle.laws.specs.Lists.{pasted};
 ghost use Rattle.board.specs.declared.Direction.the-variants.{Out};
 ghost use Rattle.event_rules.specs.Events.{arrived, collected, missing};
 ghost use Rattle.record.specs.Record.{admissionBy, passes, recordSound, areaIn};
-ghost use Rattle.host.specs.Host.{answerBy, leftBy, unless, signalled, missRefusalIn, entryIn, InBuffer, arrivalRefusalIn, arrivalCall, collectionRefusalIn, packetIn, takenBy, collectionCall, busResetCall, suspendCall, resumeCall, setupEndCall, missCall, underrunCall, overrunCall, happenedNumber, takenNumber};
+ghost use Rattle.host.specs.Host.{answerBy, leftBy, unless, signalled, missRefusalIn, entryIn, InBuffer, arrivalRefusalIn, arrivalCall, collectionRefusalIn, packetIn, takenBy, collectionCall, busResetCall, suspendCall, resumeCall, setupEndCall, missCall, underrunCall, overrunCall, happenedNumber};
 
 // The answer of an event that gives no value.
 pub enum Happened {
@@ -322,14 +322,5 @@ pub fn happened_number(a: Happened) -> u8
     match a {
         Happened::Done => 0,
         Happened::Refused(x) => record::refusal_number(x),
-    }
-}
-
-pub fn taken_number(a: Taken) -> u8
-    ensures { λ n. ⌜ n ≡ takenNumber a ⌝ }
-{
-    match a {
-        Taken::Done(_, _) => 0,
-        Taken::Refused(x) => record::refusal_number(x),
     }
 }

@@ -2,21 +2,16 @@
 -- Assumes nothing.
 use Prim.Native.Nat.{ℕ, _<_}
 use mathlib.Core.Path.{_≡_, refl, sym, ap, subst, _∙_}
-use mathlib.Core.Bool.{Bool}
 use Rattle.board.specs.declared.Direction.the-variants.{Out}
 use Rattle.csr.specs.declared.Side.{Side}
-use Rattle.register_file.specs.Registers.{File, sideAt}
+use Rattle.register_file.specs.Registers.{File}
 use Rattle.register_file.proofs.Readings.{reselected}
 use Rattle.store_rules.specs.Stores.{Log, writeIndex}
 use Rattle.store_rules.proofs.Promises.{index-selects}
 use Rattle.poll_walk.specs.Round.{readyAt, walked}
-use Rattle.poll_walk.specs.Cleared.{ClearsHighest}
+use Rattle.poll_walk.specs.Cleared.{readyIn, ClearsHighest}
 use Rattle.poll_walk.proofs.Laws.{ready-selected}
 use Rattle.poll_walk.proofs.Drained.{leftBy, walked-left, clears-highest, left-low}
-
--- RxPktRdy of an endpoint, which no index store changes
-abbrev pub readyIn : File → ℕ → Bool
-readyIn r e = sideAt r e Out .ready
 
 module _ (g : Log) where
   abbrev Known : Log → Type 0

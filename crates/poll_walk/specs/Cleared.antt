@@ -6,6 +6,12 @@ use mathlib.Core.Path.{_≡_}
 use mathlib.Core.Logic.{_⊎_}
 use mathlib.Core.Bool.{Bool, true, false}
 use Rattle.laws.specs.Words.{bit}
+use Rattle.board.specs.declared.Direction.the-variants.{Out}
+use Rattle.register_file.specs.Registers.{File, sideAt}
+
+-- RxPktRdy of an endpoint
+abbrev pub readyIn : File → ℕ → Bool
+readyIn r e = sideAt r e Out .ready
 
 -- k is the highest drained flag
 pub record Highest (flags : ℕ) (ready : ℕ → Bool) (k : ℕ) : Type 0 where

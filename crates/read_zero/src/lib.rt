@@ -11,7 +11,7 @@ ghost use Prim.Native.Nat.{_+_, _*_, _≤_, _<_};
 ghost use lib.ListN.{length, getD};
 ghost use Rattle.store_rules.specs.Stores.{log};
 ghost use Rattle.peek.specs.Peek.{afterOf};
-ghost use Rattle.read_zero.specs.Read.{gotNumber, wLength, wayIn, afterSetup, setUp, dataOut, zeroBy, readZero};
+ghost use Rattle.read_zero.specs.Read.{wLength, wayIn, afterSetup, setUp, dataOut, zeroBy, readZero};
 
 pub enum Got {
     // the packet's length, however much of it the buffer holds
@@ -23,16 +23,6 @@ pub struct Fetched {
     pub answer: Got,
     pub record: Record,
     pub stores: usize,
-}
-
-// Document 01's number of an answer.
-pub fn got_number(a: Got) -> u8
-    ensures { λ n. ⌜ n ≡ gotNumber a ⌝ }
-{
-    match a {
-        Got::Done(_) => 0,
-        Got::Refused(x) => record::refusal_number(x),
-    }
 }
 
 fn wide(x: u8) -> u16

@@ -11,7 +11,7 @@ use Rattle.record.specs.declared.Record.{Record}
 use Rattle.record.specs.declared.Refusal.{Refusal}
 use Rattle.record.specs.declared.Admission.{Admission}
 use Rattle.record.specs.declared.Admission.the-variants.{Clear, Refused}
-use Rattle.record.specs.Record.{recordSound, SoundRecord, refusalNumber, admissionBy}
+use Rattle.record.specs.Record.{admissionNumber, recordSound, SoundRecord, refusalNumber, admissionBy}
 use Rattle.record.specs.Rows.{Row, row, Given, Replies}
 use Rattle.record.proofs.Passing.{record-is-sound, sound-record-passes}
 
@@ -82,11 +82,6 @@ tells-both false b s t = (λ e. clash e, λ u. clash (s .1 (u .0)))
 
 pub tells-is : (a b : ℕ) → eqb a b ≡ true ↔ a ≡ b
 tells-is a b = (eqb-true a b, eq-eqb a b)
-
--- document 01's number of what the tests came to
-abbrev pub admissionNumber : Admission → ℕ
-admissionNumber Clear = 0
-admissionNumber (Refused x) = refusalNumber x
 
 -- "Order: 15, 16, 8"
 pub numbered : (short passes beyond : Bool) → admissionNumber (admissionBy short passes beyond) ≡ cond short 15 (cond (not passes) 16 (cond beyond 8 0))

@@ -111,3 +111,8 @@ withControl k c = record { regs = k .regs; endpoints = k .endpoints; «control_s
 
 abbrev pub withIrq : Record → Flags → Record
 withIrq k f = record { regs = k .regs; endpoints = k .endpoints; «control_state» = k .«control_state»; irq = f }
+
+-- document 01's number of what the tests came to
+abbrev pub admissionNumber : Admission → ℕ
+admissionNumber Clear = 0
+admissionNumber (Refused x) = refusalNumber x

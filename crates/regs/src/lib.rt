@@ -12,7 +12,7 @@ use register_file::Regs;
 ghost use mathlib.Core.Path.{_≡_};
 ghost use Prim.Native.Nat.{_<_};
 ghost use Rattle.register_file.specs.Registers.{freshRegs, sideWord, sideIn, withSideIn, sideAt, withSide};
-ghost use Rattle.register_file.specs.Control.{csr0lRead, txcsrlRead, rxcsrlRead, count0, rxcount, csr0lStored, csr0hFlushed};
+ghost use Rattle.register_file.specs.Control.{csr0lRead, txcsrlRead, rxcsrlRead, count0, csr0lStored, csr0hFlushed};
 ghost use Rattle.register_file.specs.Sound.{wordsBelow, sidesBelow, regsSound};
 
 // Places in the array: the registers that are there once; of the interrupt registers what is raised and not read yet (of the bus suspend is
@@ -145,13 +145,6 @@ pub fn read_count0(w: &[u16; 46]) -> u16
     ensures { λ n. ⌜ n ≡ count0 (now (w .entry)) ⌝ }
 {
     let s = side_at(w, 0, Direction::Out);
-    s.len
-}
-
-pub fn read_rxcount(w: &[u16; 46]) -> u16
-    ensures { λ n. ⌜ n ≡ rxcount (now (w .entry)) ⌝ }
-{
-    let s = side_at(w, w[INDEX], Direction::Out);
     s.len
 }
 

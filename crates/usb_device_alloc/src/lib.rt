@@ -11,7 +11,7 @@ use record::Refusal;
 ghost use mathlib.Core.Path.{_≡_};
 ghost use Rattle.board.specs.Boards.{rows};
 ghost use Rattle.endpoints.specs.Endpoints.{ask};
-ghost use Rattle.usb_device_alloc.specs.Calls.{allocated, assignedIf, allocEpCall, allocationNumber};
+ghost use Rattle.usb_device_alloc.specs.Calls.{allocated, assignedIf, allocEpCall};
 
 // The answer of `alloc_ep`: the endpoint, or the source's own error, before the trait's takes its place.
 pub enum Allocation {
@@ -95,15 +95,5 @@ pub fn alloc_ep(
             control_state: c,
             irq: f,
         },
-    }
-}
-
-pub fn allocation_number(a: Allocation) -> u8
-    ensures { λ n. ⌜ n ≡ allocationNumber a ⌝ }
-{
-    match a {
-        Allocation::Done(_) => 0,
-        Allocation::NotGiven(e) => endpoints::error_number(e),
-        Allocation::Refused(x) => record::refusal_number(x),
     }
 }

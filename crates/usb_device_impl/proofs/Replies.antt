@@ -11,9 +11,9 @@ use Rattle.common_impl.specs.Common.{busInit}
 use Rattle.record.specs.declared.Record.{Record}
 use Rattle.record.specs.declared.Admission.{Admission}
 use Rattle.record.specs.declared.Admission.the-variants.{Clear, Refused}
-use Rattle.record.specs.Record.{recordSound, endpointsOf, admissionBy}
+use Rattle.record.specs.Record.{admissionNumber, recordSound, endpointsOf, admissionBy}
 use Rattle.record.specs.Rows.{Row, Given}
-use Rattle.record.proofs.Rows.{exactly, none-left, tested, tells-under, tells-from, tells-over, tells-bad, admissionNumber, first-all, first-lent}
+use Rattle.record.proofs.Rows.{exactly, none-left, tested, tells-under, tells-from, tells-over, tells-bad, first-all, first-lent}
 use Rattle.usb_device_impl.specs.Calls.{Outcome, stored, unless, short, begun, beyond, addressEntry, busInitCall, enableCall, addressCall, forceResetCall, replyNumber}
 use Rattle.usb_device_impl.specs.Replies.{listRows, addressRows, endpointRows, Answers}
 

@@ -67,12 +67,15 @@ within read (suc m) w i j h a b = go (ℕ-discrete j i) (within read m (raisedIf
 pub record Walked (s : Snapshot) (f g : Flags) (l : List ℕ) : Type 0 where
   pub tx : g .«ep_tx» ≡ foldl (raisedIf (s .tx)) (f .«ep_tx») l
   pub rx : g .«ep_rx» ≡ foldl (raisedIf (s .rx)) (f .«ep_rx») l
+  pub reset : g .reset ≡ f .reset
   pub suspend : g .suspend ≡ f .suspend
+  pub resume : g .resume ≡ f .resume
+  pub ep0 : g .ep0 ≡ f .ep0
 
 walked : (s : Snapshot) (f : Flags) (l : List ℕ) → Walked s f (foldl (endpointTaken s) f l) l
 unfolding endpointTaken
-walked s f [] = record { tx = refl; rx = refl; suspend = refl }
-walked s f (e ∷ l) = let w = walked s (endpointTaken s f e) l in record { tx = w .tx; rx = w .rx; suspend = w .suspend }
+walked s f [] = record { tx = refl; rx = refl; reset = refl; suspend = refl; resume = refl; ep0 = refl }
+walked s f (e ∷ l) = let w = walked s (endpointTaken s f e) l in record { tx = w .tx; rx = w .rx; reset = w .reset; suspend = w .suspend; resume = w .resume; ep0 = w .ep0 }
 
 pub takes : (count : ℕ) (r : File) (f : Flags) → Whole r → count ≤ 6 → Takes count r f (taken count (snapshotOf r) f)
 unfolding taken endpointsTaken busTaken snapshotOf
@@ -88,7 +91,12 @@ takes count r f all six =
       rx = λ j h low.
           ap (λ (x : ℕ). bit x j) (w .rx) ∙ within (s .rx) (count - 1) (f .«ep_rx») 1 j (omega arith) h (omega arith)
           ∙ ap (λ (x : ℕ). bit (f .«ep_rx») j || bit x j) rx;
+      reset = w .reset;
       suspend = w .suspend;
+      resume = w .resume;
+      zero = w .ep0 ∙ ap (λ (x : ℕ). f .ep0 || bit x 0) tx;
+      txZero = ap (λ (x : ℕ). bit x 0) (w .tx) ∙ before (s .tx) (count - 1) (f .«ep_tx») 1 0 (omega arith) (omega arith);
+      rxZero = ap (λ (x : ℕ). bit x 0) (w .rx) ∙ before (s .rx) (count - 1) (f .«ep_rx») 1 0 (omega arith) (omega arith);
     }
 
 -- "Interrupt registers clear when read."

@@ -19,8 +19,8 @@ use Rattle.control_state.specs.declared.ControlStateEnum.the-variants.{Accepted
 use Rattle.record.specs.declared.Flags.{Flags}
 use Rattle.record.specs.declared.Record.{Record}
 use Rattle.record.specs.Record.{recordSound, endpointsIn}
-use Rattle.poll_walk.specs.Cleared.{ClearsHighest}
-use Rattle.poll_walk.proofs.Cleared.{readyIn, walk-clears}
+use Rattle.poll_walk.specs.Cleared.{readyIn, ClearsHighest}
+use Rattle.poll_walk.proofs.Cleared.{walk-clears}
 use Rattle.poll_zero.specs.Round.{Round, round, withEp0, sentBy, receivedBy, zeroBy, zeroServed, endpointZero, acceptStep}
 use Rattle.poll_zero.specs.Accepted.{Accepts}
 use Rattle.poll_zero.proofs.Accepted.{accepts}

@@ -9,10 +9,10 @@ use Rattle.common_impl.specs.Common.{isStalled}
 use Rattle.record.specs.declared.Record.{Record}
 use Rattle.record.specs.declared.Admission.{Admission}
 use Rattle.record.specs.declared.Admission.the-variants.{Clear, Refused}
-use Rattle.record.specs.Record.{recordSound, admissionBy}
+use Rattle.record.specs.Record.{admissionNumber, recordSound, admissionBy}
 use Rattle.record.specs.Rows.{Row, Given}
 use Rattle.record.proofs.Numbers.{not-zero}
-use Rattle.record.proofs.Rows.{exactly, admissionNumber}
+use Rattle.record.proofs.Rows.{exactly}
 use Rattle.usb_device_impl.specs.Calls.{short, begun, beyond}
 use Rattle.usb_device_impl.specs.Replies.{endpointRows, Answers}
 use Rattle.usb_device_impl.proofs.Replies.{answers, at-endpoint}

@@ -16,7 +16,7 @@ ghost use lib.ListN.{length};
 ghost use Rattle.store_rules.specs.Stores.{log, writeIndex};
 ghost use Rattle.common_impl.specs.Common.{isStalled};
 ghost use Rattle.usb_device_impl.specs.Calls.{left};
-ghost use Rattle.usb_device_stall.specs.Calls.{epStall, afterStall, setStalledRan, setStalledCall, toldLeft, isStalledRan, isStalledCall, toldNumber};
+ghost use Rattle.usb_device_stall.specs.Calls.{epStall, afterStall, setStalledRan, setStalledCall, toldLeft, isStalledRan, isStalledCall};
 
 // The answer of `is_stalled`.
 pub enum Told {
@@ -165,14 +165,5 @@ pub fn is_stalled(k: Record, ep: u8, direction: Direction, list: &mut [u16]) -> 
             irq: f,
         },
         stores: o.n,
-    }
-}
-
-pub fn told_number(a: Told) -> u8
-    ensures { λ n. ⌜ n ≡ toldNumber a ⌝ }
-{
-    match a {
-        Told::Done(_) => 0,
-        Told::Refused(x) => record::refusal_number(x),
     }
 }

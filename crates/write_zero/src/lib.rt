@@ -13,7 +13,7 @@ ghost use lib.ListN.{length};
 ghost use Rattle.laws.specs.Words.{raised};
 ghost use Rattle.store_rules.specs.Stores.{log};
 ghost use Rattle.peek.specs.Peek.{afterOf};
-ghost use Rattle.write_zero.specs.Write.{wroteNumber, withEpTx, txSizeIn, dataIn, sentDataIn, sentZero};
+ghost use Rattle.write_zero.specs.Write.{withEpTx, txSizeIn, dataIn, sentDataIn, sentZero};
 
 pub enum Wrote {
     // how many bytes
@@ -25,16 +25,6 @@ pub struct Written {
     pub answer: Wrote,
     pub record: Record,
     pub stores: usize,
-}
-
-// Document 01's number of an answer.
-pub fn wrote_number(a: Wrote) -> u8
-    ensures { λ n. ⌜ n ≡ wroteNumber a ⌝ }
-{
-    match a {
-        Wrote::Done(_) => 0,
-        Wrote::Refused(x) => record::refusal_number(x),
-    }
 }
 
 // Endpoint 0's recorded transmit size.
