@@ -2,6 +2,7 @@
 // The source changes its array of endpoints in place; here the array goes in by value and comes back beside the answer.
 use board::Board;
 use board::Direction;
+use endpoints::Allocated;
 use endpoints::Answer;
 use endpoints::Checked;
 use endpoints::EndpointAllocError;
@@ -12,13 +13,8 @@ ghost use mathlib.Core.Path.{_≡_};
 ghost use Prim.Native.Nat.{_<_};
 ghost use Rattle.board.specs.Boards.{rows};
 ghost use Rattle.endpoints.specs.Endpoints.{ask};
-ghost use Rattle.endpoints.specs.Allocate.{given};
-ghost use Rattle.alloc_endpoint.specs.Allocate.{checkAt, answerTo, allocate};
-
-pub struct Allocated {
-    pub endpoints: [EndpointData; 6],
-    pub answer: Answer,
-}
+ghost use Rattle.endpoints.specs.Check.{given};
+ghost use Rattle.endpoints.specs.Allocate.{checkAt, answerTo, allocate};
 
 // The check of the endpoint at a number.
 fn check_at(
@@ -34,7 +30,7 @@ fn check_at(
 {
     let i = index as usize;
     let ep = endpoints[i];
-    endpoints::check_endpoint(board, ep, ep_type, index, direction, max_packet_size)
+    endpoint_ops::check_endpoint(board, ep, ep_type, index, direction, max_packet_size)
 }
 
 // No number is wanted: the lowest that passes. Endpoint 0 is reserved for the control pipe.
@@ -50,7 +46,7 @@ fn alloc_any(
     let count = board::endpoints(board);
     let mut i: u8 = 1;
     while i < count {
-        if endpoints::is_ok(check_at(board, endpoints, ep_type, i, direction, max_packet_size)) {
+        if endpoint_ops::is_ok(check_at(board, endpoints, ep_type, i, direction, max_packet_size)) {
             return Answer::Done(i);
         }
         i += 1;
@@ -95,7 +91,7 @@ fn give(
     let i = index as usize;
     let ep = endpoints[i];
     let mut next = endpoints;
-    next[i] = endpoints::marked(ep, ep_type, direction, max_packet_size);
+    next[i] = endpoint_ops::marked(ep, ep_type, direction, max_packet_size);
     next
 }
 

@@ -25,10 +25,10 @@ use Rattle.store_rules.specs.Promise.{index, csr0l, csr0h, txcsrl, iso, maxp, i
 use Rattle.store_rules.proofs.Promises.{modify-csr0l, modify-txcsrl, modify-rxcsrl, modify-intre}
 use Rattle.endpoints.specs.declared.EndpointData.{EndpointData}
 use Rattle.endpoints.specs.Endpoints.{blank}
-use Rattle.common_impl.specs.Common.{selected, stallCsr0l, writeCsrl, epTxStall, epRxStall}
-use Rattle.enabling.specs.Common.{flushedZero, enabledZero, sized, settled, isoWritten, waits, flush, flushed, enabledOther, enabled, epTxEnable, epRxEnable}
-use Rattle.usb_device_reset.specs.Calls.{txEnabled, rxEnabled, usedEnabled, enabledBelow}
-use Rattle.usb_device_stall.specs.Calls.{epStall}
+use Rattle.common_rules.specs.Common.{selected, stallCsr0l, writeCsrl, epTxStall, epRxStall}
+use Rattle.common_rules.specs.Enable.{flushedZero, enabledZero, sized, settled, isoWritten, waits, flush, flushed, enabledOther, enabled, epTxEnable, epRxEnable}
+use Rattle.call_rules.specs.Reset.{txEnabled, rxEnabled, usedEnabled, enabledBelow}
+use Rattle.call_rules.specs.Stall.{epStall}
 use Rattle.calls.proofs.Packets.{At, Left, apart, drops, told-by}
 use Rattle.calls.proofs.Accounts.{by-test, txModify, zeroModify}
 

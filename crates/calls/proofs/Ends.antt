@@ -17,52 +17,52 @@ use Rattle.store_rules.proofs.Promises.{index-selects, index-lists}
 use Rattle.store_list.proofs.Promises.{listed-first}
 use Rattle.endpoints.specs.declared.EndpointAllocError.{EndpointAllocError}
 use Rattle.endpoints.specs.declared.EndpointAllocError.the-variants.{EndpointOverflow, InvalidEndpoint, EpDirNotSupported, EpUsed, MaxPacketSizeBiggerThanEpFifoSize}
-use Rattle.alloc_endpoint.specs.declared.Allocated.{Allocated}
+use Rattle.endpoints.specs.declared.Allocated.{Allocated}
 use Rattle.endpoints.specs.declared.EndpointData.{EndpointData}
 use Rattle.endpoints.specs.declared.Answer.{Answer}
 use Rattle.endpoints.specs.declared.Answer.the-variants as answer
 use Rattle.endpoints.specs.declared.Wanted.{Wanted}
 use Rattle.endpoints.specs.declared.Wanted.the-variants.{Any, Number}
 use Rattle.endpoints.specs.Endpoints.{Ask}
-use Rattle.alloc_endpoint.specs.Allocate.{allocate}
+use Rattle.endpoints.specs.Allocate.{allocate}
 use Rattle.endpoints.specs.Numbers.{errorNumber, answerNumber}
-use Rattle.alloc_endpoint.specs.Replies as allocation
-use Rattle.alloc_endpoint.proofs.Answers as alloc
-use Rattle.alloc_endpoint.proofs.Changes.{refused-keeps}
-use Rattle.peek.specs.declared.Verdict.{Verdict}
-use Rattle.peek.specs.Peek.{short, testsBy, blocked as blockedAfter}
-use Rattle.peek.proofs.Lent.{lent-enough}
+use Rattle.endpoints.specs.Replies as allocation
+use Rattle.endpoints.proofs.Answers as alloc
+use Rattle.endpoints.proofs.Changes.{refused-keeps}
+use Rattle.transfer_rules.specs.declared.Verdict.{Verdict}
+use Rattle.transfer_rules.specs.Peek.{short, testsBy, blocked as blockedAfter}
+use Rattle.transfer_rules.proofs.Lent.{lent-enough}
 use Rattle.record.specs.declared.Record.{Record}
 use Rattle.record.specs.declared.Admission.{Admission}
 use Rattle.record.specs.Rows.{Row, Given, Replies}
 use Rattle.record.specs.Record.{recordSound, admissionBy, endpointsOf, withRegs, withEndpoints}
-use Rattle.usb_device_impl.specs.Calls as impl
-use Rattle.usb_device_alloc.specs.Calls as impl-alloc
-use Rattle.usb_device_stall.specs.Calls as impl-stall
-use Rattle.usb_device_impl.specs.Replies as simple-rows
-use Rattle.usb_device_impl.proofs.Replies as simple
-use Rattle.usb_device_reset.proofs.Replies as simple-reset
-use Rattle.usb_device_stall.specs.Replies as stall-rows
-use Rattle.usb_device_stall.proofs.Replies as simple-stall
-use Rattle.write_tests.specs.Write as write-call
-use Rattle.write_zero.specs.Write.{wroteNumber, txSize}
-use Rattle.usb_device_write.specs.Write.{WriteOutcome, outcome as write-outcome, writeBy, writeCall}
-use Rattle.usb_device_write.proofs.Verdicts.{tests-are}
-use Rattle.usb_device_write.specs.Replies as write-rows
-use Rattle.usb_device_write.proofs.Answers as writes
-use Rattle.read_tests.specs.Read as read-call
-use Rattle.read_zero.specs.Read.{gotNumber}
-use Rattle.usb_device_read.specs.Read.{ReadOutcome, readCall}
-use Rattle.usb_device_read.proofs.Verdicts.{told as read-told}
-use Rattle.usb_device_read.specs.Replies as read-rows
-use Rattle.usb_device_read.proofs.Answers as reads
-use Rattle.usb_device_interrupt.specs.Interrupt.{interruptBy, interruptCall}
-use Rattle.usb_device_poll.specs.Poll.{PollOutcome, outcomeOf, pollNumber, pollWhen, pollAdmitted, pollCall}
-use Rattle.usb_device_poll.proofs.Answers as polls
-use Rattle.host.specs.declared.Host.{Host}
-use Rattle.host.specs.Host as host
-use Rattle.host.specs.Replies as event-rows
-use Rattle.host.proofs.Replies as events
+use Rattle.call_rules.specs.Calls as impl
+use Rattle.call_rules.specs.Alloc as impl-alloc
+use Rattle.call_rules.specs.Stall as impl-stall
+use Rattle.call_rules.specs.Replies as simple-rows
+use Rattle.call_rules.proofs.Replies as simple
+use Rattle.call_rules.proofs.ResetReplies as simple-reset
+use Rattle.call_rules.specs.StallReplies as stall-rows
+use Rattle.call_rules.proofs.StallReplies as simple-stall
+use Rattle.transfer_rules.specs.WriteTests as write-call
+use Rattle.transfer_rules.specs.WriteZero.{wroteNumber, txSize}
+use Rattle.transfer_rules.specs.Write.{WriteOutcome, outcome as write-outcome, writeBy, writeCall}
+use Rattle.transfer_rules.proofs.WriteVerdicts.{tests-are}
+use Rattle.transfer_rules.specs.WriteReplies as write-rows
+use Rattle.transfer_rules.proofs.WriteAnswers as writes
+use Rattle.transfer_rules.specs.ReadTests as read-call
+use Rattle.transfer_rules.specs.ReadZero.{gotNumber}
+use Rattle.transfer_rules.specs.Read.{ReadOutcome, readCall}
+use Rattle.transfer_rules.proofs.ReadVerdicts.{told as read-told}
+use Rattle.transfer_rules.specs.ReadReplies as read-rows
+use Rattle.transfer_rules.proofs.ReadAnswers as reads
+use Rattle.call_rules.specs.Interrupt.{interruptBy, interruptCall}
+use Rattle.round_rules.specs.Poll.{PollOutcome, outcomeOf, pollNumber, pollWhen, pollAdmitted, pollCall}
+use Rattle.round_rules.proofs.PollReplies as polls
+use Rattle.host_rules.specs.declared.EventCalled.{EventCalled}
+use Rattle.host_rules.specs.Host as host
+use Rattle.host_rules.specs.Replies as event-rows
+use Rattle.host_rules.proofs.Replies as events
 use Rattle.calls.specs.Calls.{Op, allocEp, busInit, enable, reset, setDeviceAddress, write, read, setStalled, isStalled, poll, onInterrupt, forceReset, arrival, collection, busReset, suspend, resume, setupEnd, underrun, overrun, Outcome, called, told, allocated, written, fetched, polled, interrupted, happened, arrived, collected, outcome}
 use Rattle.calls.specs.Demand.{replies, allocReplies, among, noneLent, listLent, lent, unchanged, selected, Blocking, writing, reading}
 use Rattle.laws.proofs.Tests.{clash}
@@ -109,7 +109,7 @@ module _ (k : Record) (o : Op) (rs : List Row) (is : numbers rs ≡ replies o) (
   told-ends l {b} {a} p t =
       by-rows (t .replies) (λ n. ap told (t .unchanged n) ∙ ap (unchanged (impl-stall.toldNumber (a .call .answer)) k) (sym p))
 
-  happened-ends : {a : Host} → lent o ≡ noneLent → event-rows.Answers a k rs → Ends k o (happened a)
+  happened-ends : {a : EventCalled} → lent o ≡ noneLent → event-rows.Answers a k rs → Ends k o (happened a)
   happened-ends {a} p t =
       by-rows (t .replies)
       (λ n. ap (λ (q : Record). happened (record { answer = a .answer; «record» = q })) (t .unchanged n) ∙ ap (unchanged (host.happenedNumber (a .answer)) k) (sym p))

@@ -10,7 +10,7 @@ use Rattle.event_rules.proofs.Halts as events
 use Rattle.record.specs.declared.Record.{Record}
 use Rattle.record.specs.Record.{recordSound}
 use Rattle.record.proofs.Passing.{record-is-sound}
-use Rattle.usb_device_interrupt.specs.Interrupt.{interrupted}
+use Rattle.call_rules.specs.Interrupt.{interrupted}
 use Rattle.calls.specs.Calls.{Op}
 use Rattle.calls.specs.Kept.{SparesHalts}
 use Rattle.calls.proofs.Steps.{Gentle, same-halts}

@@ -29,10 +29,10 @@ use Rattle.record.specs.declared.Admission.{Admission}
 use Rattle.record.specs.declared.Admission.the-variants.{Clear, Refused}
 use Rattle.record.specs.Record.{recordSound, admissionBy, areaIn, areaOf, endpointsIn, endpointsOf}
 use Rattle.record.proofs.Rows.{none-refused}
-use Rattle.host.specs.Host as host
-use Rattle.host.proofs.Laws as laws
-use Rattle.usb_device_interrupt.specs.Interrupt.{cleared, snapshotOf, interrupted}
-use Rattle.usb_device_interrupt.proofs.Flags.{taken-low}
+use Rattle.host_rules.specs.Host as host
+use Rattle.host_rules.proofs.Host as laws
+use Rattle.call_rules.specs.Interrupt.{cleared, snapshotOf, interrupted}
+use Rattle.call_rules.proofs.Flags.{taken-low}
 use Rattle.laws.proofs.Tests.{clash}
 use Rattle.csr.proofs.Tame.{stays-ok, alike, either, one-way, dropped-tame}
 use Rattle.calls.proofs.Steps.{Standing, Holds}

@@ -12,7 +12,7 @@ use Rattle.record.specs.Record.{freshRecord, recordSound, areaIn, areaOf, Sound
 use Rattle.record.proofs.Areas.{size-at}
 use Rattle.record.proofs.Passing.{fresh-passes}
 use Rattle.event_rules.specs.Promise.{Event}
-use Rattle.usb_device_interrupt.specs.Interrupt.{interrupted, interruptBy, interruptCall}
+use Rattle.call_rules.specs.Interrupt.{interrupted, interruptBy, interruptCall}
 use Rattle.calls.specs.Calls.{Op, allocEp, busInit, enable, reset, setDeviceAddress, write, read, setStalled, isStalled, poll, onInterrupt, forceReset, arrival, collection, busReset, suspend, resume, setupEnd, underrun, overrun, step}
 use Rattle.calls.specs.Kept.{Good, Pending, Stores, WritesStall}
 use Rattle.calls.proofs.Steps.{Sane, Gentle, Holds, keeps, holds}

@@ -19,7 +19,7 @@ use Rattle.csr.specs.declared.TxcsrlSet.the-variants.{NoUnderRun}
 use Rattle.register_file.specs.Control.{csr0lRead, txcsrlRead, rxcsrlRead, count0}
 use Rattle.store_rules.specs.Stores.{Log, log, writeIndex}
 use Rattle.store_rules.specs.Promise.{index}
-use Rattle.overrun.specs.Common.{underRunCleared, overRunCleared, repaired, repairedBelow, checkOverrun}
+use Rattle.common_rules.specs.Overrun.{underRunCleared, overRunCleared, repaired, repairedBelow, checkOverrun}
 use Rattle.laws.specs.Lists.{numbers}
 use Rattle.control_state.specs.declared.ControlState.{ControlState}
 use Rattle.control_state.specs.declared.ControlStateEnum.{ControlStateEnum}
@@ -30,9 +30,9 @@ use Rattle.record.specs.declared.Admission.{Admission}
 use Rattle.record.specs.declared.Admission.the-variants.{Clear, Refused}
 use Rattle.record.specs.Record.{recordSound, admissionBy, endpointsIn}
 use Rattle.record.proofs.Passing.{record-is-sound}
-use Rattle.poll_zero.specs.Round.{Round, round, withEp0, sentBy, setupTaken, restarted, cutShort, receivedBy, zeroBy, zeroServed, endpointZero, putBack, acceptedBy, acceptStep}
-use Rattle.poll_walk.specs.Round.{Walk, walk, readyAt, drained, visit, walked}
-use Rattle.usb_device_poll.specs.Poll.{After, outcomeOf, ended, walkedOn, acceptedOn, roundOut, pollBy, pollLogged, pollServed, pollWhen, pollAdmitted, pollCall}
+use Rattle.round_rules.specs.Zero.{Round, round, withEp0, sentBy, setupTaken, restarted, cutShort, receivedBy, zeroBy, zeroServed, endpointZero, putBack, acceptedBy, acceptStep}
+use Rattle.round_rules.specs.Walk.{Walk, walk, readyAt, drained, visit, walked}
+use Rattle.round_rules.specs.Poll.{After, outcomeOf, ended, walkedOn, acceptedOn, roundOut, pollBy, pollLogged, pollServed, pollWhen, pollAdmitted, pollCall}
 use Rattle.laws.proofs.Tests.{clash}
 use Rattle.calls.proofs.Steps.{Reached, none, then, one, Careful}
 use Rattle.calls.proofs.Accounts.{Low, Account, left, by-test, tx-modifies, rx-repairs, zero-modifies, passes}

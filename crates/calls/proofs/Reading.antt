@@ -17,14 +17,14 @@ use Rattle.control_state.specs.declared.ControlStateEnum.{ControlStateEnum}
 use Rattle.control_state.specs.declared.ControlStateEnum.the-variants.{Idle, Setup, DataIn, DataOut, Accepted, NodataPhase}
 use Rattle.record.specs.declared.Record.{Record}
 use Rattle.record.specs.Record.{recordSound, endpointsOf, admissionBy}
-use Rattle.peek.specs.declared.Verdict.{Verdict}
-use Rattle.peek.specs.Peek.{short, testsBy, After, after, leaving, blocked, ended}
-use Rattle.read_zero.specs.Read.{wLength, setUp, rxSize, dataOut, zeroBy, readZero}
-use Rattle.read_tests.specs.Read.{ownTests}
-use Rattle.usb_device_read.specs.Read.{ReadOutcome, readOther, got, taken, readCall}
-use Rattle.usb_device_read.specs.Replies.{unready, notReadable, notSetup, Given, done as granted, blocks, beyond, unreadable, unset, little, unsound}
-use Rattle.usb_device_read.proofs.Verdicts.{told}
-use Rattle.usb_device_read.proofs.Answers.{tested, by-tests, exactly}
+use Rattle.transfer_rules.specs.declared.Verdict.{Verdict}
+use Rattle.transfer_rules.specs.Peek.{short, testsBy, After, after, leaving, blocked, ended}
+use Rattle.transfer_rules.specs.ReadZero.{wLength, setUp, rxSize, dataOut, zeroBy, readZero}
+use Rattle.transfer_rules.specs.ReadTests.{ownTests}
+use Rattle.transfer_rules.specs.Read.{ReadOutcome, readOther, got, taken, readCall}
+use Rattle.transfer_rules.specs.ReadReplies.{unready, notReadable, notSetup, Given, done as granted, blocks, beyond, unreadable, unset, little, unsound}
+use Rattle.transfer_rules.proofs.ReadVerdicts.{told}
+use Rattle.transfer_rules.proofs.ReadAnswers.{tested, by-tests, exactly}
 use Rattle.calls.proofs.Steps.{Reached, none, then, one, Gentle, Careful, careful-gentle}
 use Rattle.calls.proofs.Accounts.{Account, left, stores, gentle, by-test, rx-modifies, zero-modifies, there}
 

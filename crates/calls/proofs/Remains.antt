@@ -24,16 +24,16 @@ use Rattle.endpoints.specs.Endpoints.{blank}
 use Rattle.record.specs.declared.Record.{Record}
 use Rattle.record.specs.Record.{recordSound, admissionBy, endpointsIn, endpointsOf}
 use Rattle.record.proofs.Passing.{record-is-sound}
-use Rattle.usb_device_impl.specs.Calls.{stored, unless, short, begun, idled, beyond, replyNumber}
-use Rattle.usb_device_reset.specs.Calls.{resetStores, resetCall}
-use Rattle.usb_device_stall.specs.Calls.{epStall, afterStall, setStalledCall}
-use Rattle.peek.specs.Peek.{leaving, blocked}
-use Rattle.read_zero.specs.Read.{gotNumber, rxSize, readZero}
-use Rattle.usb_device_read.specs.Read.{ReadOutcome, readOther, got, taken, readCall}
-use Rattle.usb_device_read.specs.Replies.{Given, done as granted, blocks, beyond as too-high, unreadable, unset, little, unsound}
-use Rattle.usb_device_read.proofs.Verdicts.{told}
-use Rattle.usb_device_read.proofs.Answers.{tested, by-tests, exactly}
-use Rattle.usb_device_interrupt.specs.Interrupt.{interrupted, interruptCall}
+use Rattle.call_rules.specs.Calls.{stored, unless, short, begun, idled, beyond, replyNumber}
+use Rattle.call_rules.specs.Reset.{resetStores, resetCall}
+use Rattle.call_rules.specs.Stall.{epStall, afterStall, setStalledCall}
+use Rattle.transfer_rules.specs.Peek.{leaving, blocked}
+use Rattle.transfer_rules.specs.ReadZero.{gotNumber, rxSize, readZero}
+use Rattle.transfer_rules.specs.Read.{ReadOutcome, readOther, got, taken, readCall}
+use Rattle.transfer_rules.specs.ReadReplies.{Given, done as granted, blocks, beyond as too-high, unreadable, unset, little, unsound}
+use Rattle.transfer_rules.proofs.ReadVerdicts.{told}
+use Rattle.transfer_rules.proofs.ReadAnswers.{tested, by-tests, exactly}
+use Rattle.call_rules.specs.Interrupt.{interrupted, interruptCall}
 use Rattle.calls.specs.Calls.{reset, read, setStalled, outcome, step}
 use Rattle.calls.specs.Kept.{Remain}
 use Rattle.calls.proofs.Packets.{Left, apart, told-by}

@@ -25,17 +25,17 @@ use Rattle.endpoints.specs.Endpoints.{Ask, blank}
 use Rattle.store_rules.specs.Stores.{Log, modifyCsr0l, modifyIntre}
 use Rattle.store_rules.specs.Promise.{faddr, power, index, csr0l, csr0h, txcsrl, rxcsrl, iso, maxp, intrusbe, intre}
 use Rattle.store_rules.proofs.Promises.{modify-csr0l, modify-txcsrl, modify-rxcsrl, modify-intre}
-use Rattle.common_impl.specs.Common.{busInit, selected, stallCsr0l, writeCsrl, epTxStall, epRxStall, isStalled}
-use Rattle.enabling.specs.Common.{flushedZero, enabledZero, sized, settled, isoWritten, waits, flush, flushed, enabledOther, enabled, epTxEnable, epRxEnable}
+use Rattle.common_rules.specs.Common.{busInit, selected, stallCsr0l, writeCsrl, epTxStall, epRxStall, isStalled}
+use Rattle.common_rules.specs.Enable.{flushedZero, enabledZero, sized, settled, isoWritten, waits, flush, flushed, enabledOther, enabled, epTxEnable, epRxEnable}
 use Rattle.record.specs.declared.Record.{Record}
 use Rattle.record.specs.declared.Admission.{Admission}
 use Rattle.record.specs.declared.Admission.the-variants.{Clear, Refused}
 use Rattle.record.specs.Record.{recordSound, endpointsIn, endpointsOf, admissionBy}
-use Rattle.host.proofs.Laws.{never}
-use Rattle.usb_device_impl.specs.Calls.{stored, unless, short, begun, beyond, busInitCall, enableCall, idled, addressEntry, addressCall}
-use Rattle.usb_device_reset.specs.Calls.{txEnabled, rxEnabled, usedEnabled, enabledBelow, resetStores, resetCall}
-use Rattle.usb_device_stall.specs.Calls.{epStall, afterStall, setStalledCall, toldOf, unlessTold, isStalledCall}
-use Rattle.usb_device_alloc.specs.Calls.{unlessAllocated, allocEp, allocEpCall}
+use Rattle.host_rules.proofs.Host.{never}
+use Rattle.call_rules.specs.Calls.{stored, unless, short, begun, beyond, busInitCall, enableCall, idled, addressEntry, addressCall}
+use Rattle.call_rules.specs.Reset.{txEnabled, rxEnabled, usedEnabled, enabledBelow, resetStores, resetCall}
+use Rattle.call_rules.specs.Stall.{epStall, afterStall, setStalledCall, toldOf, unlessTold, isStalledCall}
+use Rattle.call_rules.specs.Alloc.{unlessAllocated, allocEp, allocEpCall}
 use Rattle.calls.proofs.Steps.{Step, one, Reached, none, then, Sane, Careful}
 use Rattle.calls.proofs.Accounts.{Account, left, stores, by-test, txModify, rxModify, zeroModify, passes, below}
 

@@ -30,15 +30,15 @@ use Rattle.control_state.specs.declared.ControlStateEnum.the-variants.{Idle, Se
 use Rattle.record.specs.declared.Record.{Record}
 use Rattle.record.specs.declared.Flags.{Flags}
 use Rattle.record.specs.Record.{recordSound, areaIn, endpointsOf, admissionBy}
-use Rattle.peek.specs.declared.Verdict.{Verdict}
-use Rattle.peek.specs.Peek.{short, testsBy, After, after, leaving, blocked, ended}
-use Rattle.write_zero.specs.Write.{nodataPhase, accepted, txSize, dataIn, sentDataIn, sentZero}
-use Rattle.write_tests.specs.Write as tests
-use Rattle.write_tests.specs.Write.{untakenIn, ownTests}
-use Rattle.usb_device_write.specs.Write.{WriteOutcome, outcome, loaded, sentOther, sent, taken, writeBy, writeCall}
-use Rattle.usb_device_write.specs.Replies.{unready, tooLong, notWritable, Given, done as granted, blocks, beyond, long, untaken, little, unsound}
-use Rattle.usb_device_write.proofs.Verdicts.{tests-are}
-use Rattle.usb_device_write.proofs.Answers.{call-is, exactly}
+use Rattle.transfer_rules.specs.declared.Verdict.{Verdict}
+use Rattle.transfer_rules.specs.Peek.{short, testsBy, After, after, leaving, blocked, ended}
+use Rattle.transfer_rules.specs.WriteZero.{nodataPhase, accepted, txSize, dataIn, sentDataIn, sentZero}
+use Rattle.transfer_rules.specs.WriteTests as tests
+use Rattle.transfer_rules.specs.WriteTests.{untakenIn, ownTests}
+use Rattle.transfer_rules.specs.Write.{WriteOutcome, outcome, loaded, sentOther, sent, taken, writeBy, writeCall}
+use Rattle.transfer_rules.specs.WriteReplies.{unready, tooLong, notWritable, Given, done as granted, blocks, beyond, long, untaken, little, unsound}
+use Rattle.transfer_rules.proofs.WriteVerdicts.{tests-are}
+use Rattle.transfer_rules.proofs.WriteAnswers.{call-is, exactly}
 use Rattle.laws.proofs.Tests.{clash}
 use Rattle.calls.proofs.Steps as steps
 use Rattle.calls.proofs.Steps.{Reached, none, then, one, Careful, Readies}

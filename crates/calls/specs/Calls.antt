@@ -7,21 +7,21 @@ use Rattle.board.specs.declared.Direction.{Direction}
 use Rattle.endpoints.specs.declared.Wanted.{Wanted}
 use Rattle.endpoints.specs.Endpoints.{Ask}
 use Rattle.record.specs.declared.Record.{Record}
-use Rattle.usb_device_alloc.specs.declared.AllocEp.{AllocEp}
-use Rattle.usb_device_impl.specs.Calls as impl
-use Rattle.usb_device_alloc.specs.Calls as impl-alloc
-use Rattle.usb_device_reset.specs.Calls as impl-reset
-use Rattle.usb_device_stall.specs.Calls as impl-stall
-use Rattle.usb_device_write.specs.Write.{WriteOutcome, writeCall}
-use Rattle.write_zero.specs.Write.{wroteNumber}
-use Rattle.usb_device_read.specs.Read.{ReadOutcome, readCall}
-use Rattle.read_zero.specs.Read.{gotNumber}
-use Rattle.usb_device_poll.specs.Poll.{PollOutcome, pollCall, pollNumber}
-use Rattle.usb_device_interrupt.specs.declared.OnInterrupt.{OnInterrupt}
-use Rattle.usb_device_interrupt.specs.Interrupt.{interruptCall, interruptNumber}
-use Rattle.host.specs.declared.Host.{Host}
-use Rattle.host.specs.declared.Collected.{Collected}
-use Rattle.host.specs.Host as host
+use Rattle.call_rules.specs.declared.AllocCalled.{AllocCalled}
+use Rattle.call_rules.specs.Calls as impl
+use Rattle.call_rules.specs.Alloc as impl-alloc
+use Rattle.call_rules.specs.Reset as impl-reset
+use Rattle.call_rules.specs.Stall as impl-stall
+use Rattle.transfer_rules.specs.Write.{WriteOutcome, writeCall}
+use Rattle.transfer_rules.specs.WriteZero.{wroteNumber}
+use Rattle.transfer_rules.specs.Read.{ReadOutcome, readCall}
+use Rattle.transfer_rules.specs.ReadZero.{gotNumber}
+use Rattle.round_rules.specs.Poll.{PollOutcome, pollCall, pollNumber}
+use Rattle.call_rules.specs.declared.InterruptCalled.{InterruptCalled}
+use Rattle.call_rules.specs.Interrupt.{interruptCall, interruptNumber}
+use Rattle.host_rules.specs.declared.EventCalled.{EventCalled}
+use Rattle.host_rules.specs.declared.CollectCalled.{CollectCalled}
+use Rattle.host_rules.specs.Host as host
 
 -- The buffers and their contents are part of the operation, so each call may be lent another buffer.
 pub data Op : Type 0 where
@@ -58,7 +58,7 @@ called o = record { reply = impl.replyNumber (o .call .answer); «record» = o .
 abbrev pub told : impl-stall.ToldOutcome → Outcome
 told o = record { reply = impl-stall.toldNumber (o .call .answer); «record» = o .call .«record»; stores = o .call .stores; fifo = []; list = o .list; buf = [] }
 
-abbrev pub allocated : AllocEp → Outcome
+abbrev pub allocated : AllocCalled → Outcome
 allocated o = record { reply = impl-alloc.allocationNumber (o .answer); «record» = o .«record»; stores = 0; fifo = []; list = []; buf = [] }
 
 abbrev pub written : WriteOutcome → Outcome
@@ -70,16 +70,16 @@ fetched o = record { reply = gotNumber (o .result .answer); «record» = o .resu
 abbrev pub polled : PollOutcome → Outcome
 polled o = record { reply = pollNumber (o .result .answer); «record» = o .result .«record»; stores = o .result .stores; fifo = []; list = o .list; buf = [] }
 
-abbrev pub interrupted : OnInterrupt → Outcome
+abbrev pub interrupted : InterruptCalled → Outcome
 interrupted o = record { reply = interruptNumber (o .answer); «record» = o .«record»; stores = 0; fifo = []; list = []; buf = [] }
 
-abbrev pub happened : Host → Outcome
+abbrev pub happened : EventCalled → Outcome
 happened o = record { reply = host.happenedNumber (o .answer); «record» = o .«record»; stores = 0; fifo = []; list = []; buf = [] }
 
 abbrev pub arrived : host.Arrival → Outcome
 arrived o = record { reply = host.happenedNumber (o .event .answer); «record» = o .event .«record»; stores = 0; fifo = o .fifo; list = []; buf = [] }
 
-abbrev pub collected : Collected → Outcome
+abbrev pub collected : CollectCalled → Outcome
 collected o = record { reply = host.takenNumber (o .answer); «record» = o .«record»; stores = 0; fifo = []; list = []; buf = [] }
 
 -- Each call's own definition decides; `forceReset` takes no record, so that it leaves any as it was.

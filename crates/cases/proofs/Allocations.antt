@@ -4,8 +4,8 @@ use mathlib.Core.Path.{refl}
 use Rattle.board.specs.declared.Board.the-variants.{Display}
 use Rattle.board.specs.Boards.{display, rows, rows-display}
 use Rattle.endpoints.specs.Endpoints.{granted}
-use Rattle.endpoints.specs.Allocate.{taken, checked, given}
-use Rattle.alloc_endpoint.specs.Allocate.{checkAt, answerTo, allocate}
+use Rattle.endpoints.specs.Check.{taken, checked, given}
+use Rattle.endpoints.specs.Allocate.{checkAt, answerTo, allocate}
 use Rattle.cases.specs.Allocations.{Hold, allocations}
 
 -- apart from the statement, so that a wrong case prints which value differs

@@ -8,13 +8,13 @@ use Rattle.board.specs.Table as table
 use Rattle.register_file.specs.Registers.{freshFile, freshRegs, index, faddr, sideWord, sideOf, sideIn, withSideIn, sideAt, withSide}
 use Rattle.csr.specs.Sound.{sideSound}
 use Rattle.register_file.specs.Sound.{wordsBelow, sidesBelow, regsSound}
-use Rattle.peek.specs.Peek.{shortIn, rxPktRdy, rxCount, ended}
+use Rattle.transfer_rules.specs.Peek.{shortIn, rxPktRdy, rxCount, ended}
 use Rattle.record.specs.Record as whole
 use Rattle.record.specs.Record.{freshRecord, areaIn, areaOf, needIn, needOf, flagsSound, recordSound, endpointsIn, endpointsOf}
 use Rattle.cases.specs.Allocations.{Hold}
-use Rattle.read_tests.specs.Read.{notReadable, notSetup, ownTestsAt, testsIn}
-use Rattle.read_zero.specs.Read.{rxSize, dataOut, readZero}
-use Rattle.usb_device_read.specs.Read.{got, taken, readIn, readCall}
+use Rattle.transfer_rules.specs.ReadTests.{notReadable, notSetup, ownTestsAt, testsIn}
+use Rattle.transfer_rules.specs.ReadZero.{rxSize, dataOut, readZero}
+use Rattle.transfer_rules.specs.Read.{got, taken, readIn, readCall}
 use Rattle.cases.specs.Readings.{readings}
 
 pub p13 : Hold (readings Display)

@@ -20,16 +20,16 @@ use Rattle.register_file.specs.Sound.{wordsBelow, sidesBelow, regsSound}
 use Rattle.store_rules.specs.Stores.{Log, log, writeIndex}
 use Rattle.store_list.specs.Stores.{listed}
 use Rattle.event_rules.specs.Events.{waitingAt, busRaised, busReset, busResume, intrusbCleared, intrCleared}
-use Rattle.overrun.specs.Common.{underRunCleared, overRunCleared, repaired, repairedBelow, checkOverrun}
+use Rattle.common_rules.specs.Overrun.{underRunCleared, overRunCleared, repaired, repairedBelow, checkOverrun}
 use Rattle.laws.specs.Lists.{numbers}
 use Rattle.cases.specs.Allocations.{Hold}
 use Rattle.record.specs.declared.Record.{Record}
 use Rattle.record.specs.Record.{freshRecord, flagsSound, passes, recordSound, endpointsIn, endpointsOf, withRegs, admissionBy}
-use Rattle.usb_device_interrupt.specs.Interrupt.{snapshotOf, cleared, busTaken, raisedIf, endpointTaken, endpointsTaken, taken, interrupted, interruptBy, interruptCall}
-use Rattle.poll_zero.specs.Round.{endpointZero, acceptedBy, acceptStep}
-use Rattle.poll_walk.specs.Round.{readyAt, drained, visit, walked}
-use Rattle.usb_device_poll.specs.Round.{told}
-use Rattle.usb_device_poll.specs.Poll.{PollOutcome, outcomeOf, ended, walkedOn, acceptedOn, roundOut, pollLogged, pollServed, pollWhen, pollAdmitted, pollCall}
+use Rattle.call_rules.specs.Interrupt.{snapshotOf, cleared, busTaken, raisedIf, endpointTaken, endpointsTaken, taken, interrupted, interruptBy, interruptCall}
+use Rattle.round_rules.specs.Zero.{endpointZero, acceptedBy, acceptStep}
+use Rattle.round_rules.specs.Walk.{readyAt, drained, visit, walked}
+use Rattle.round_rules.specs.Round.{told}
+use Rattle.round_rules.specs.Poll.{PollOutcome, outcomeOf, ended, walkedOn, acceptedOn, roundOut, pollLogged, pollServed, pollWhen, pollAdmitted, pollCall}
 use Rattle.cases.specs.Rounds.{says, run, space, fresh, flagged, fiveWaits, bothTaken, rounds}
 
 -- reply 16's test with the table as an argument, so that it computes

@@ -8,13 +8,13 @@ use Rattle.board.specs.Table as table
 use Rattle.register_file.specs.Registers.{freshFile, freshRegs, index, faddr, sideOf, sideIn, sideAt}
 use Rattle.csr.specs.Sound.{sideSound}
 use Rattle.register_file.specs.Sound.{wordsBelow, sidesBelow, regsSound}
-use Rattle.peek.specs.Peek.{shortIn, txPktRdy, ended}
+use Rattle.transfer_rules.specs.Peek.{shortIn, txPktRdy, ended}
 use Rattle.record.specs.Record as whole
 use Rattle.record.specs.Record.{freshRecord, areaIn, areaOf, needIn, needOf, flagsSound, recordSound, endpointsIn, endpointsOf}
 use Rattle.cases.specs.Allocations.{Hold}
-use Rattle.write_tests.specs.Write.{tooLong, notWritable, ownTestsAt, testsIn}
-use Rattle.write_zero.specs.Write.{txSizeIn, txSize, dataIn, sentDataIn}
-use Rattle.usb_device_write.specs.Write.{sent, taken, writeIn, writeCall}
+use Rattle.transfer_rules.specs.WriteTests.{tooLong, notWritable, ownTestsAt, testsIn}
+use Rattle.transfer_rules.specs.WriteZero.{txSizeIn, txSize, dataIn, sentDataIn}
+use Rattle.transfer_rules.specs.Write.{sent, taken, writeIn, writeCall}
 use Rattle.cases.specs.Writes.{writes}
 
 pub p11-and-p12 : Hold (writes Display)

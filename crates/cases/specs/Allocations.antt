@@ -14,7 +14,7 @@ use Rattle.endpoints.specs.declared.EndpointData.{EndpointData}
 use Rattle.endpoints.specs.declared.Wanted.{Wanted}
 use Rattle.endpoints.specs.declared.Wanted.the-variants.{Any, Number}
 use Rattle.endpoints.specs.Endpoints.{Ask, ask, fresh}
-use Rattle.alloc_endpoint.specs.Allocate.{allocate}
+use Rattle.endpoints.specs.Allocate.{allocate}
 use Rattle.endpoints.specs.Numbers.{answerNumber, answerValues}
 
 -- a list of numbers for each call, as the report prints them: its reply, then its values

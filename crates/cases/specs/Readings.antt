@@ -16,10 +16,10 @@ use Rattle.control_state.specs.declared.ControlStateEnum.{ControlStateEnum}
 use Rattle.control_state.specs.declared.ControlStateEnum.the-variants.{Idle, DataOut}
 use Rattle.record.specs.declared.Record.{Record}
 use Rattle.record.specs.Record.{freshRecord, withRegs, withControl, withEndpoints, needOf}
-use Rattle.read_zero.specs.declared.Got.{Got}
-use Rattle.read_zero.specs.declared.Got.the-variants.{Done, Refused}
-use Rattle.usb_device_read.specs.Read.{ReadOutcome, readCall}
-use Rattle.read_zero.specs.Read.{gotNumber}
+use Rattle.transfer_rules.specs.declared.ReadAnswer.{ReadAnswer}
+use Rattle.transfer_rules.specs.declared.ReadAnswer.the-variants.{Done, Refused}
+use Rattle.transfer_rules.specs.Read.{ReadOutcome, readCall}
+use Rattle.transfer_rules.specs.ReadZero.{gotNumber}
 
 -- a receive side where a packet of n bytes waits
 abbrev pub waits : ℕ → Side
@@ -32,7 +32,7 @@ receiving k size n =
     (withSide (k .regs .words) 0 Out (waits n))
 
 -- what a read gives, without the bytes: its reply, its count, and then the control state's number
-abbrev pub counted : Got → List ℕ
+abbrev pub counted : ReadAnswer → List ℕ
 counted (Done n) = n ∷ []
 counted (Refused x) = []
 

@@ -8,9 +8,9 @@ use Rattle.event_rules.specs.Events.{waitingAt, busReset, busResume}
 use Rattle.cases.specs.Allocations.{Case}
 use Rattle.record.specs.declared.Record.{Record}
 use Rattle.record.specs.Record.{freshRecord, withRegs, withIrq}
-use Rattle.usb_device_interrupt.specs.Interrupt.{interruptCall}
-use Rattle.poll_zero.specs.Round.{withRx}
-use Rattle.usb_device_poll.specs.Poll.{PollOutcome, pollCall, pollNumber, pollValues}
+use Rattle.call_rules.specs.Interrupt.{interruptCall}
+use Rattle.round_rules.specs.Zero.{withRx}
+use Rattle.round_rules.specs.Poll.{PollOutcome, pollCall, pollNumber, pollValues}
 
 -- the reply and the values of a poll, as the report prints them
 abbrev pub says : PollOutcome → List ℕ

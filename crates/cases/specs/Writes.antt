@@ -13,8 +13,8 @@ use Rattle.control_state.specs.declared.ControlStateEnum.{ControlStateEnum}
 use Rattle.control_state.specs.declared.ControlStateEnum.the-variants.{Idle, DataIn}
 use Rattle.record.specs.declared.Record.{Record}
 use Rattle.record.specs.Record.{freshRecord, withControl, withEndpoints, needOf}
-use Rattle.usb_device_write.specs.Write.{WriteOutcome, writeCall}
-use Rattle.write_zero.specs.Write.{wroteNumber, wroteValues}
+use Rattle.transfer_rules.specs.Write.{WriteOutcome, writeCall}
+use Rattle.transfer_rules.specs.WriteZero.{wroteNumber, wroteValues}
 
 -- a fresh record, but for endpoint 0: in DataIn with m bytes remaining
 abbrev pub sending : Board → ℕ → Record

@@ -1,13 +1,14 @@
 // What the source keeps in its common_impl.rs, first part: the bus and stalling.
 // Each function is lent the register file, takes how many stores stand in the lent list, and gives back how many stand there now.
 use board::Direction;
+use common_rules::Stalled;
 ghost use mathlib.Core.Path.{_≡_};
 ghost use mathlib.Core.Bool.{not};
 ghost use Prim.Native.Nat.{_+_, _*_, _≤_};
 ghost use lib.ListN.{length};
 ghost use Rattle.board.specs.declared.Direction.the-variants.{Out, In};
 ghost use Rattle.store_rules.specs.Stores.{log, writeIndex};
-ghost use Rattle.common_impl.specs.Common.{busInit, selected, stallCsr0l, writeCsrl, epTxStall, epRxStall, sendStall, isStalled};
+ghost use Rattle.common_rules.specs.Common.{busInit, selected, stallCsr0l, writeCsrl, epTxStall, epRxStall, sendStall, isStalled};
 
 pub fn bus_init(w: &mut [u16; 46], list: &mut [u16], n: usize) -> usize
     requires { ⌜ n * 3 + 9 ≤ length (now list) ⌝ }
@@ -88,12 +89,6 @@ pub fn ep_rx_stall(w: &mut [u16; 46], list: &mut [u16], n: usize, index: u8, sta
     ensures { λ m. ⌜ (log (now (w .exit)) (now (list .exit)) m ≡ epRxStall index stalled (log (now (w .entry)) (now (list .entry)) n)) × (m ≡ n + 2) ⌝ }
 {
     stall(w, list, n, Direction::Out, index, stalled, stalled)
-}
-
-// How many stores stand in the list, and what was read.
-pub struct Stalled {
-    pub n: usize,
-    pub stalled: bool,
 }
 
 fn send_stall(w: &[u16; 46], d: Direction) -> bool

@@ -10,7 +10,7 @@ ghost use mathlib.Core.Path.{_≡_};
 ghost use Prim.Native.Nat.{_+_, _*_, _≤_, _<_};
 ghost use lib.ListN.{length};
 ghost use Rattle.store_rules.specs.Stores.{log};
-ghost use Rattle.enabling.specs.Common.{flushedZero, enabledZero, isoWritten, waits, flush, flushed, sized, settled, enabledOther, enabled, isochronous, epTxEnable, epRxEnable};
+ghost use Rattle.common_rules.specs.Enable.{flushedZero, enabledZero, isoWritten, waits, flush, flushed, sized, settled, enabledOther, enabled, isochronous, epTxEnable, epRxEnable};
 
 fn flush_zero(w: &mut [u16; 46], list: &mut [u16], n: usize) -> usize
     requires { ⌜ n * 3 + 3 ≤ length (now list) ⌝ }
@@ -137,7 +137,7 @@ fn enable(
 fn is_isochronous(t: EndpointType) -> bool
     ensures { λ b. ⌜ b ≡ isochronous t ⌝ }
 {
-    endpoints::type_number(t) == endpoints::type_number(EndpointType::Isochronous)
+    endpoint_ops::type_number(t) == endpoint_ops::type_number(EndpointType::Isochronous)
 }
 
 pub fn ep_tx_enable(

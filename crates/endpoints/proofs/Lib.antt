@@ -1,4 +1,7 @@
-pub mod Laws
+pub mod CheckAnswers
+pub mod Marked
+pub mod Check
+pub mod Taken
 pub mod Answers
 pub mod Changes
-pub mod Taken
+pub mod Allocate

@@ -12,9 +12,9 @@ use Rattle.endpoints.specs.declared.EndpointType.{EndpointType}
 use Rattle.endpoints.specs.declared.EndpointType.the-variants.{Control, Isochronous, Bulk, Interrupt}
 use Rattle.endpoints.specs.declared.EndpointData.{EndpointData}
 use Rattle.endpoints.specs.Endpoints.{Ask, sameType, kindOf, used, usedIn}
-use Rattle.endpoints.specs.Allocate.{taken, overSize}
+use Rattle.endpoints.specs.Check.{taken, overSize}
 use Rattle.endpoints.specs.Taken.{Marked, Taken, bulk, another, same}
-use Rattle.endpoints.proofs.Answers.{clash}
+use Rattle.endpoints.proofs.CheckAnswers.{clash}
 
 or-true : (a : Bool) → (a || true) ≡ true
 or-true true = refl

@@ -1,4 +1,6 @@
+pub mod Check
 pub mod Endpoints
-pub mod Allocate
 pub mod Numbers
 pub mod Taken
+pub mod Allocate
+pub mod Replies

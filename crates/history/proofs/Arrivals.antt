@@ -21,8 +21,8 @@ use Rattle.record.specs.declared.Record.{Record}
 use Rattle.record.specs.declared.Admission.{Admission}
 use Rattle.record.specs.declared.Admission.the-variants.{Clear, Refused}
 use Rattle.record.specs.Record.{recordSound, admissionBy, endpointsOf, areaOf, needOf}
-use Rattle.host.specs.Host.{Arrival, done, unlessArrived, entryAt, arrivalBy, arrivalRefusalIn, arrivalRefusal, arrivalCall}
-use Rattle.host.proofs.Laws.{never, admitted}
+use Rattle.host_rules.specs.Host.{Arrival, done, unlessArrived, entryAt, arrivalBy, arrivalRefusalIn, arrivalRefusal, arrivalCall}
+use Rattle.host_rules.proofs.Host.{never, admitted}
 use Rattle.rounds.specs.Machine.{arrivesAt}
 use Rattle.rounds.specs.Laws.{Does}
 use Rattle.rounds.proofs.Lawful.{unchanged}

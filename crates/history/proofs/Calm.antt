@@ -9,7 +9,7 @@ use lib.ListN.{length}
 use Rattle.board.specs.declared.Direction.{Direction}
 use Rattle.csr.specs.declared.Csr0lSet.the-variants.{ServicedRxPktRdy}
 use Rattle.store_rules.specs.Stores.{Log, log, writeIndex, writeFaddr, modifyCsr0l}
-use Rattle.common_impl.specs.Common.{busInit, isStalled}
+use Rattle.common_rules.specs.Common.{busInit, isStalled}
 use Rattle.control_state.specs.declared.ControlState.{ControlState}
 use Rattle.control_state.specs.declared.ControlStateEnum.{ControlStateEnum}
 use Rattle.control_state.specs.declared.ControlStateEnum.the-variants.{Idle, Setup, DataIn, DataOut, Accepted, NodataPhase}
@@ -20,21 +20,21 @@ use Rattle.record.specs.declared.Record.{Record}
 use Rattle.record.specs.declared.Admission.{Admission}
 use Rattle.record.specs.declared.Admission.the-variants.{Clear, Refused}
 use Rattle.record.specs.Record.{admissionBy, recordSound}
-use Rattle.peek.specs.declared.Verdict.{Verdict}
-use Rattle.peek.specs.declared.Verdict.the-variants as verdict
-use Rattle.peek.specs.Peek.{After, blocked, ended}
-use Rattle.usb_device_alloc.specs.Calls.{allocEp, unlessAllocated, allocEpCall}
-use Rattle.usb_device_impl.specs.Calls.{unless, stored, begun, short, beyond, busInitCall, enableCall, idled, addressEntry, addressCall}
-use Rattle.usb_device_reset.specs.Calls.{resetStores, resetCall}
-use Rattle.usb_device_stall.specs.Calls.{afterStall, epStall, setStalledCall, unlessTold, toldOf, isStalledCall}
-use Rattle.write_tests.specs.Write as write
-use Rattle.write_zero.specs.Write as zero-write
-use Rattle.usb_device_write.specs.Write as write-write
-use Rattle.read_tests.specs.Read as read
-use Rattle.read_zero.specs.Read as zero-read
-use Rattle.usb_device_read.specs.Read as read-read
-use Rattle.usb_device_write.proofs.Answers.{call-is}
-use Rattle.usb_device_read.proofs.Answers.{tested, by-tests}
+use Rattle.transfer_rules.specs.declared.Verdict.{Verdict}
+use Rattle.transfer_rules.specs.declared.Verdict.the-variants as verdict
+use Rattle.transfer_rules.specs.Peek.{After, blocked, ended}
+use Rattle.call_rules.specs.Alloc.{allocEp, unlessAllocated, allocEpCall}
+use Rattle.call_rules.specs.Calls.{unless, stored, begun, short, beyond, busInitCall, enableCall, idled, addressEntry, addressCall}
+use Rattle.call_rules.specs.Reset.{resetStores, resetCall}
+use Rattle.call_rules.specs.Stall.{afterStall, epStall, setStalledCall, unlessTold, toldOf, isStalledCall}
+use Rattle.transfer_rules.specs.WriteTests as write
+use Rattle.transfer_rules.specs.WriteZero as zero-write
+use Rattle.transfer_rules.specs.Write as write-write
+use Rattle.transfer_rules.specs.ReadTests as read
+use Rattle.transfer_rules.specs.ReadZero as zero-read
+use Rattle.transfer_rules.specs.Read as read-read
+use Rattle.transfer_rules.proofs.WriteAnswers.{call-is}
+use Rattle.transfer_rules.proofs.ReadAnswers.{tested, by-tests}
 use Rattle.history.proofs.Flags.{Alike, same, tx-raised}
 
 module _ (k : Record) where

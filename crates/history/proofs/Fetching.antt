@@ -8,10 +8,10 @@ use lib.ListN.{length}
 use borrow.Author.Tests.{ne-eqb, le-ltb, lt-leb}
 use Rattle.record.specs.declared.Record.{Record}
 use Rattle.record.specs.Record.{recordSound, endpointsOf, needIn, needOf}
-use Rattle.peek.specs.Peek.{shortIn, short, rxPktRdy}
-use Rattle.read_tests.specs.Read as tests
-use Rattle.usb_device_read.specs.Replies.{Admitted, unready, notReadable, notSetup, done}
-use Rattle.usb_device_read.proofs.Answers.{exactly}
+use Rattle.transfer_rules.specs.Peek.{shortIn, short, rxPktRdy}
+use Rattle.transfer_rules.specs.ReadTests as tests
+use Rattle.transfer_rules.specs.ReadReplies.{Admitted, unready, notReadable, notSetup, done}
+use Rattle.transfer_rules.proofs.ReadAnswers.{exactly}
 use Rattle.calls.specs.Calls.{read}
 use Rattle.history.specs.Driver.{waiting, takes}
 

@@ -9,20 +9,20 @@ use Rattle.csr.specs.Control.{txcsrlOf, rxcsrlOf, txStored, rxStored, txcsrlSet
 use Rattle.store_list.specs.Stores.{listed}
 use Rattle.store_rules.specs.Stores.{noted, withOwn, writeIndex, writeTxcsrl, writeRxcsrl, modifyTxcsrl, modifyRxcsrl, writePacket}
 use Rattle.event_rules.specs.Events.{interrupting, waitingAt, arrived, collected, busRaised, busReset, busResume, intrusbCleared, intrCleared}
-use Rattle.overrun.specs.Common.{underRunCleared, overRunCleared, repaired, repairedBelow}
+use Rattle.common_rules.specs.Overrun.{underRunCleared, overRunCleared, repaired, repairedBelow}
 use Rattle.laws.specs.Lists.{numbers}
 use Rattle.record.specs.Record.{freshRecord}
-use Rattle.peek.specs.Peek.{txPktRdy, rxPktRdy, rxCount}
-use Rattle.write_tests.specs.Write as write
-use Rattle.usb_device_write.specs.Write as write-write
-use Rattle.read_tests.specs.Read as read
-use Rattle.usb_device_read.specs.Read as read-read
-use Rattle.usb_device_interrupt.specs.Interrupt.{snapshotOf, cleared, busTaken, raisedIf, endpointTaken, endpointsTaken, taken}
-use Rattle.poll_zero.specs.Round.{endpointZero, acceptedBy, acceptStep}
-use Rattle.poll_walk.specs.Round.{readyAt, drained, visit, walked}
-use Rattle.usb_device_poll.specs.Round.{told}
-use Rattle.usb_device_poll.specs.Poll.{ended, walkedOn, acceptedOn, roundOut, pollLogged}
-use Rattle.host.specs.Host.{collectedFrom}
+use Rattle.transfer_rules.specs.Peek.{txPktRdy, rxPktRdy, rxCount}
+use Rattle.transfer_rules.specs.WriteTests as write
+use Rattle.transfer_rules.specs.Write as write-write
+use Rattle.transfer_rules.specs.ReadTests as read
+use Rattle.transfer_rules.specs.Read as read-read
+use Rattle.call_rules.specs.Interrupt.{snapshotOf, cleared, busTaken, raisedIf, endpointTaken, endpointsTaken, taken}
+use Rattle.round_rules.specs.Zero.{endpointZero, acceptedBy, acceptStep}
+use Rattle.round_rules.specs.Walk.{readyAt, drained, visit, walked}
+use Rattle.round_rules.specs.Round.{told}
+use Rattle.round_rules.specs.Poll.{ended, walkedOn, acceptedOn, roundOut, pollLogged}
+use Rattle.host_rules.specs.Host.{collectedFrom}
 use Rattle.rounds.specs.Machine.{Event, round, names, namesSent, isRound, after, falseNamings, arrivalsAbove}
 use Rattle.rounds.specs.Sentences.{StillWaits, NextRound, ThreePolls}
 use Rattle.history.proofs.Sample.{Do, arrive, take, put, collect, reset, resume, irq, poll, op, ops, sample, M, at-start, event-of, after-all, false-of, above-of, still-waits, next-round, three-polls}

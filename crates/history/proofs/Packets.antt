@@ -23,9 +23,9 @@ use Rattle.record.specs.declared.Record.{Record}
 use Rattle.record.specs.declared.Admission.{Admission}
 use Rattle.record.specs.declared.Admission.the-variants.{Clear, Refused}
 use Rattle.record.specs.Record.{freshRecord, endpointsIn, endpointsOf}
-use Rattle.usb_device_interrupt.specs.Interrupt.{interruptCall}
-use Rattle.usb_device_poll.specs.Poll.{pollCall}
-use Rattle.host.specs.Host.{Arrival}
+use Rattle.call_rules.specs.Interrupt.{interruptCall}
+use Rattle.round_rules.specs.Poll.{pollCall}
+use Rattle.host_rules.specs.Host.{Arrival}
 use Rattle.calls.specs.Calls.{Op, allocEp, busInit, enable, reset, setDeviceAddress, write, read, setStalled, isStalled, poll, onInterrupt, forceReset, arrival, collection, busReset, suspend, resume, setupEnd, underrun, overrun, step}
 use Rattle.calls.proofs.Simple as simple
 use Rattle.calls.proofs.Writing as writing

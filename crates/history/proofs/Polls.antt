@@ -15,7 +15,7 @@ use Rattle.board.specs.declared.Direction.the-variants.{Out}
 use Rattle.board.specs.Boards.{rows, at-most-six, at-least-one}
 use Rattle.register_file.specs.Registers.{sideAt, intrOf}
 use Rattle.store_rules.specs.Stores.{Log, log}
-use Rattle.overrun.specs.Common.{checkOverrun}
+use Rattle.common_rules.specs.Overrun.{checkOverrun}
 use Rattle.record.specs.declared.Flags.{Flags}
 use Rattle.record.specs.declared.Record.{Record}
 use Rattle.record.specs.declared.Refusal.the-variants.{TooLittleLent}
@@ -23,12 +23,12 @@ use Rattle.record.specs.declared.Admission.{Admission}
 use Rattle.record.specs.declared.Admission.the-variants as admission
 use Rattle.record.specs.Record.{admissionBy, recordSound, endpointsIn, endpointsOf}
 use Rattle.record.proofs.Passing.{sound-record-passes}
-use Rattle.poll_zero.specs.Round.{withTx, withRx, endpointZero, acceptStep}
-use Rattle.poll_walk.specs.Round.{walked}
-use Rattle.usb_device_poll.specs.Round.{masks, told}
-use Rattle.usb_device_poll.specs.declared.PollResult.the-variants.{None, Data}
-use Rattle.usb_device_poll.specs.Poll.{PollOutcome, outcomeOf, ended, walkedOn, acceptedOn, roundOut, pollBy, pollLogged, pollServed, pollWhen, pollAdmitted, pollCall}
-use Rattle.poll_walk.proofs.Drained.{leftBy, none-new, ready-stays, false-naming}
+use Rattle.round_rules.specs.Zero.{withTx, withRx, endpointZero, acceptStep}
+use Rattle.round_rules.specs.Walk.{walked}
+use Rattle.round_rules.specs.Round.{masks, told}
+use Rattle.round_rules.specs.declared.PollResult.the-variants.{None, Data}
+use Rattle.round_rules.specs.Poll.{PollOutcome, outcomeOf, ended, walkedOn, acceptedOn, roundOut, pollBy, pollLogged, pollServed, pollWhen, pollAdmitted, pollCall}
+use Rattle.round_rules.proofs.Drained.{leftBy, none-new, ready-stays, false-naming}
 use Rattle.rounds.specs.Machine.{Event, count, isAnsweredPoll}
 use Rattle.rounds.specs.Machine as rounds
 use Rattle.rounds.specs.Laws.{PutDown, Rounds, Pauses, Does}

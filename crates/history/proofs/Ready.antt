@@ -26,17 +26,17 @@ use Rattle.register_file.proofs.Modified.{zero-still-waits}
 use Rattle.store_rules.specs.Stores.{Log, writeIndex, modifyCsr0l, modifyTxcsrl, modifyRxcsrl}
 use Rattle.store_rules.specs.Promise.{Store, index, csr0l, txcsrl, rxcsrl, does, leaves, selects}
 use Rattle.store_rules.proofs.Promises.{sides, rest, index-selects, modify-csr0l, modify-txcsrl, modify-rxcsrl}
-use Rattle.overrun.specs.Common.{underRunCleared, overRunCleared, repaired, repairedBelow, checkOverrun}
+use Rattle.common_rules.specs.Overrun.{underRunCleared, overRunCleared, repaired, repairedBelow, checkOverrun}
 use Rattle.laws.specs.Lists.{numbers}
 use Rattle.control_state.specs.declared.ControlState.{ControlState}
 use Rattle.control_state.specs.declared.ControlStateEnum.{ControlStateEnum}
 use Rattle.control_state.specs.declared.ControlStateEnum.the-variants.{Idle, Setup, DataIn, DataOut, Accepted, NodataPhase}
 use Rattle.record.specs.declared.Flags.{Flags}
-use Rattle.peek.specs.Peek.{rxPktRdy}
-use Rattle.peek.proofs.Readings.{rx-ready}
-use Rattle.poll_zero.specs.Round.{Round, round, withEp0, setupTaken, restarted, cutShort, receivedBy, zeroBy, zeroServed, endpointZero}
-use Rattle.poll_walk.specs.Round.{readyAt, walked}
-use Rattle.poll_walk.proofs.Drained.{leftBy, walked-left}
+use Rattle.transfer_rules.specs.Peek.{rxPktRdy}
+use Rattle.transfer_rules.proofs.Readings.{rx-ready}
+use Rattle.round_rules.specs.Zero.{Round, round, withEp0, setupTaken, restarted, cutShort, receivedBy, zeroBy, zeroServed, endpointZero}
+use Rattle.round_rules.specs.Walk.{readyAt, walked}
+use Rattle.round_rules.proofs.Drained.{leftBy, walked-left}
 
 -- what endpoint 0's step stores to CSR0L
 abbrev setupEndServiced : File → Csr0l

@@ -15,22 +15,22 @@ use Rattle.board.specs.Boards.{rows, display, rows-display}
 use Rattle.register_file.specs.Registers.{File, sideAt}
 use Rattle.store_rules.specs.Stores.{log}
 use Rattle.event_rules.specs.Events as events
-use Rattle.overrun.specs.Common.{repairedBelow, checkOverrun}
+use Rattle.common_rules.specs.Overrun.{repairedBelow, checkOverrun}
 use Rattle.record.specs.declared.Record.{Record}
 use Rattle.record.specs.declared.Admission.{Admission}
 use Rattle.record.specs.declared.Admission.the-variants.{Clear, Refused}
 use Rattle.record.specs.Record.{freshRecord, recordSound, admissionBy, areaIn, areaOf, needIn, needOf, endpointsIn, endpointsOf}
 use Rattle.record.proofs.Passing.{sound-record-passes}
-use Rattle.peek.specs.Peek.{shortIn, txPktRdy, testsBy}
-use Rattle.write_zero.specs.Write.{txSize}
-use Rattle.read_zero.specs.Read.{rxSize}
-use Rattle.write_tests.specs.Write as write
-use Rattle.usb_device_write.specs.Write as write-write
-use Rattle.read_tests.specs.Read as read
-use Rattle.usb_device_read.specs.Read as read-read
-use Rattle.usb_device_interrupt.specs.Interrupt.{snapshotOf, cleared, taken, interrupted, interruptBy, interruptCall}
-use Rattle.usb_device_poll.specs.Poll.{PollOutcome, outcomeOf, pollLogged, pollServed, pollWhen, pollAdmitted, pollCall}
-use Rattle.host.specs.Host as host
+use Rattle.transfer_rules.specs.Peek.{shortIn, txPktRdy, testsBy}
+use Rattle.transfer_rules.specs.WriteZero.{txSize}
+use Rattle.transfer_rules.specs.ReadZero.{rxSize}
+use Rattle.transfer_rules.specs.WriteTests as write
+use Rattle.transfer_rules.specs.Write as write-write
+use Rattle.transfer_rules.specs.ReadTests as read
+use Rattle.transfer_rules.specs.Read as read-read
+use Rattle.call_rules.specs.Interrupt.{snapshotOf, cleared, taken, interrupted, interruptBy, interruptCall}
+use Rattle.round_rules.specs.Poll.{PollOutcome, outcomeOf, pollLogged, pollServed, pollWhen, pollAdmitted, pollCall}
+use Rattle.host_rules.specs.Host as host
 use Rattle.calls.specs.Calls.{Op, step}
 use Rattle.calls.specs.Calls as calls
 use Rattle.rounds.specs.Machine.{Event, quiet, Machine, isRound, isInterrupt, isAnsweredPoll, takesSuspend, arrivesAt, names, arrivesAbove, count, run, some, Stays, falseNamings, arrivalsAbove, endsInRound}

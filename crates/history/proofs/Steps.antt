@@ -15,14 +15,14 @@ use Rattle.record.specs.declared.Record.{Record}
 use Rattle.record.specs.declared.Admission.{Admission}
 use Rattle.record.specs.declared.Admission.the-variants.{Clear, Refused}
 use Rattle.record.specs.Record.{admissionBy, recordSound}
-use Rattle.usb_device_interrupt.specs.declared.Interrupted.{Interrupted}
-use Rattle.usb_device_interrupt.specs.declared.Interrupted.the-variants as interrupted
-use Rattle.usb_device_interrupt.specs.Interrupt.{interruptCall}
-use Rattle.usb_device_poll.specs.declared.PollResult.the-variants.{None, Data, Reset, Resume, Suspend}
-use Rattle.usb_device_poll.specs.declared.PollAnswer.{PollAnswer}
-use Rattle.usb_device_poll.specs.declared.PollAnswer.the-variants as polled
-use Rattle.usb_device_poll.specs.Poll.{pollCall}
-use Rattle.host.specs.Host as host
+use Rattle.call_rules.specs.declared.InterruptAnswer.{InterruptAnswer}
+use Rattle.call_rules.specs.declared.InterruptAnswer.the-variants as interrupted
+use Rattle.call_rules.specs.Interrupt.{interruptCall}
+use Rattle.round_rules.specs.declared.PollResult.the-variants.{None, Data, Reset, Resume, Suspend}
+use Rattle.round_rules.specs.declared.PollAnswer.{PollAnswer}
+use Rattle.round_rules.specs.declared.PollAnswer.the-variants as polled
+use Rattle.round_rules.specs.Poll.{pollCall}
+use Rattle.host_rules.specs.Host as host
 use Rattle.calls.specs.Calls.{Op, allocEp, busInit, enable, reset, setDeviceAddress, write, read, setStalled, isStalled, poll, onInterrupt, forceReset, arrival, collection, busReset, suspend, resume, setupEnd, underrun, overrun, step}
 use Rattle.calls.specs.Kept.{Stores}
 use Rattle.calls.proofs.Kept.{same-pending}
@@ -46,7 +46,7 @@ poll-brings-none i (polled.Done Resume) = tt
 poll-brings-none i (polled.Done Suspend) = tt
 poll-brings-none i (polled.Refused x) = tt
 
-pub interrupt-brings-none : (i : ℕ) (a : Interrupted) (k : Record) → T (not (arrivesAt i (interruptEvent a k)))
+pub interrupt-brings-none : (i : ℕ) (a : InterruptAnswer) (k : Record) → T (not (arrivesAt i (interruptEvent a k)))
 interrupt-brings-none i interrupted.Done k = tt
 interrupt-brings-none i (interrupted.Refused x) k = tt
 

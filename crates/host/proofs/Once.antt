@@ -4,7 +4,7 @@ use contract.Lifetimes.{Lfts}
 use borrow.Fn.Kinds.{Dens, resT, endedOf}
 use denote.Triple.Clauses.{AtExit}
 use denote.Ref.{now}
-use Rattle.host.specs.Host.{Arrival}
+use Rattle.host_rules.specs.Host.{Arrival}
 use Rattle.host.proofs.arrival.Kinds as arrival-kinds
 use Rattle.host.proofs.arrival.Reads as arrival-reads
 use Rattle.host.proofs.collection.Kinds as collection-kinds

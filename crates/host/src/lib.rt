@@ -4,6 +4,11 @@
 use board::Board;
 use board::Direction;
 use event_rules::BusEvent;
+use host_rules::CollectAnswer;
+use host_rules::CollectCalled;
+use host_rules::EventAnswer;
+use host_rules::EventCalled;
+use host_rules::Signal;
 use record::Admission;
 use record::Flags;
 use record::Record;
@@ -17,35 +22,7 @@ ghost use Rattle.laws.specs.Lists.{pasted};
 ghost use Rattle.board.specs.declared.Direction.the-variants.{Out};
 ghost use Rattle.event_rules.specs.Events.{arrived, collected, missing};
 ghost use Rattle.record.specs.Record.{admissionBy, passes, recordSound, areaIn};
-ghost use Rattle.host.specs.Host.{answerBy, leftBy, unless, signalled, missRefusalIn, entryIn, InBuffer, arrivalRefusalIn, arrivalCall, collectionRefusalIn, packetIn, takenBy, collectionCall, busResetCall, suspendCall, resumeCall, setupEndCall, missCall, underrunCall, overrunCall, happenedNumber};
-
-// The answer of an event that gives no value.
-pub enum Happened {
-    Done,
-    Refused(Refusal),
-}
-
-pub struct Host {
-    pub answer: Happened,
-    pub record: Record,
-}
-
-// The answer of a collection: where the packet stands in the FIFO buffer, start and length.
-pub enum Taken {
-    Done(usize, usize),
-    Refused(Refusal),
-}
-
-pub struct Collected {
-    pub answer: Taken,
-    pub record: Record,
-}
-
-// What happens at no endpoint: a bus event, or SetupEnd.
-enum Signal {
-    Bus(BusEvent),
-    SetupEnd,
-}
+ghost use Rattle.host_rules.specs.Host.{answerBy, leftBy, unless, signalled, missRefusalIn, entryIn, InBuffer, arrivalRefusalIn, arrivalCall, collectionRefusalIn, packetIn, takenBy, collectionCall, busResetCall, suspendCall, resumeCall, setupEndCall, missCall, underrunCall, overrunCall, happenedNumber};
 
 fn happen(w: &mut [u16; 46], o: Signal)
     ensures { λ _. ⌜ now (w .exit) ≡ signalled o (now (w .entry)) ⌝ }
@@ -63,20 +40,20 @@ fn happen(w: &mut [u16; 46], o: Signal)
 }
 
 // 16 alone can refuse it.
-fn signal_if(b: Board, w: &mut [u16; 46], f: Flags, o: Signal) -> Happened
+fn signal_if(b: Board, w: &mut [u16; 46], f: Flags, o: Signal) -> EventAnswer
     ensures { λ a. ⌜ (a ≡ answerBy (admissionBy false (passes b (now (w .entry)) f) false)) × (now (w .exit) ≡ leftBy (admissionBy false (passes b (now (w .entry)) f) false) (now (w .entry)) (signalled o (now (w .entry)))) ⌝ }
 {
-    let t = record::admit(false, b, w, f, false);
+    let t = record_ops::admit(false, b, w, f, false);
     match t {
-        Admission::Refused(x) => Happened::Refused(x),
+        Admission::Refused(x) => EventAnswer::Refused(x),
         Admission::Clear => {
             happen(w, o);
-            Happened::Done
+            EventAnswer::Done
         }
     }
 }
 
-fn on_signal(k: Record, o: Signal) -> Host
+fn on_signal(k: Record, o: Signal) -> EventCalled
     ensures { λ a. ⌜ a ≡ unless (admissionBy false (recordSound k) false) k (signalled o (k .regs .words)) ⌝ }
 {
     let r = k.regs;
@@ -86,7 +63,7 @@ fn on_signal(k: Record, o: Signal) -> Host
     let b = r.board;
     let mut w = r.words;
     let a = signal_if(b, &mut w, f, o);
-    Host {
+    EventCalled {
         answer: a,
         record: Record {
             regs: Regs { board: b, words: w },
@@ -97,25 +74,25 @@ fn on_signal(k: Record, o: Signal) -> Host
     }
 }
 
-pub fn bus_reset(k: Record) -> Host
+pub fn bus_reset(k: Record) -> EventCalled
     ensures { λ a. ⌜ a ≡ busResetCall k ⌝ }
 {
     on_signal(k, Signal::Bus(BusEvent::Reset))
 }
 
-pub fn suspend(k: Record) -> Host
+pub fn suspend(k: Record) -> EventCalled
     ensures { λ a. ⌜ a ≡ suspendCall k ⌝ }
 {
     on_signal(k, Signal::Bus(BusEvent::Suspend))
 }
 
-pub fn resume(k: Record) -> Host
+pub fn resume(k: Record) -> EventCalled
     ensures { λ a. ⌜ a ≡ resumeCall k ⌝ }
 {
     on_signal(k, Signal::Bus(BusEvent::Resume))
 }
 
-pub fn setup_end(k: Record) -> Host
+pub fn setup_end(k: Record) -> EventCalled
     ensures { λ a. ⌜ a ≡ setupEndCall k ⌝ }
 {
     on_signal(k, Signal::SetupEnd)
@@ -125,23 +102,23 @@ pub fn setup_end(k: Record) -> Host
 fn miss_refusal(b: Board, w: &[u16; 46], f: Flags, ep: u8) -> Admission
     ensures { λ a. ⌜ a ≡ missRefusalIn b (now (w .entry)) f ep ⌝ }
 {
-    record::admit(false, b, w, f, (ep == 0) | (record::endpoints(b) <= ep))
+    record_ops::admit(false, b, w, f, (ep == 0) | (record_ops::endpoints(b) <= ep))
 }
 
-fn miss_if(b: Board, w: &mut [u16; 46], f: Flags, ep: u8, d: Direction) -> Happened
+fn miss_if(b: Board, w: &mut [u16; 46], f: Flags, ep: u8, d: Direction) -> EventAnswer
     ensures { λ a. ⌜ (a ≡ answerBy (missRefusalIn b (now (w .entry)) f ep)) × (now (w .exit) ≡ leftBy (missRefusalIn b (now (w .entry)) f ep) (now (w .entry)) (missing (now (w .entry)) ep d)) ⌝ }
 {
     let t = miss_refusal(b, w, f, ep);
     match t {
-        Admission::Refused(x) => Happened::Refused(x),
+        Admission::Refused(x) => EventAnswer::Refused(x),
         Admission::Clear => {
             events::miss(w, ep, d);
-            Happened::Done
+            EventAnswer::Done
         }
     }
 }
 
-fn miss(k: Record, ep: u8, d: Direction) -> Host
+fn miss(k: Record, ep: u8, d: Direction) -> EventCalled
     ensures { λ a. ⌜ a ≡ missCall k ep d ⌝ }
 {
     let r = k.regs;
@@ -151,7 +128,7 @@ fn miss(k: Record, ep: u8, d: Direction) -> Host
     let b = r.board;
     let mut w = r.words;
     let a = miss_if(b, &mut w, f, ep, d);
-    Host {
+    EventCalled {
         answer: a,
         record: Record {
             regs: Regs { board: b, words: w },
@@ -162,13 +139,13 @@ fn miss(k: Record, ep: u8, d: Direction) -> Host
     }
 }
 
-pub fn underrun(k: Record, ep: u8) -> Host
+pub fn underrun(k: Record, ep: u8) -> EventCalled
     ensures { λ a. ⌜ a ≡ underrunCall k ep ⌝ }
 {
     miss(k, ep, Direction::In)
 }
 
-pub fn overrun(k: Record, ep: u8) -> Host
+pub fn overrun(k: Record, ep: u8) -> EventCalled
     ensures { λ a. ⌜ a ≡ overrunCall k ep ⌝ }
 {
     miss(k, ep, Direction::Out)
@@ -178,12 +155,12 @@ pub fn overrun(k: Record, ep: u8) -> Host
 fn admit(b: Board, w: &[u16; 46], f: Flags, ep: u8, memory: usize) -> Admission
     ensures { λ a. ⌜ a ≡ entryIn b (now (w .entry)) f ep memory ⌝ }
 {
-    record::admit(
-        memory < record::need(b),
+    record_ops::admit(
+        memory < record_ops::need(b),
         b,
         w,
         f,
-        record::endpoints(b) <= ep,
+        record_ops::endpoints(b) <= ep,
     )
 }
 
@@ -202,7 +179,7 @@ fn arrival_refusal(
     match t {
         Admission::Refused(x) => Admission::Refused(x),
         Admission::Clear => {
-            let s = record::area(b, ep, Direction::Out);
+            let s = record_ops::area(b, ep, Direction::Out);
             if s.size < bytes {
                 return Admission::Refused(Refusal::TooLong);
             }
@@ -221,21 +198,21 @@ fn arrive_if(
     ep: u8,
     bytes: &[u8],
     fifo: &mut [u8],
-) -> Happened
+) -> EventAnswer
     ensures { λ a. ⌜ (let t = arrivalRefusalIn b (now (w .entry)) f ep (length (now (bytes .entry))) (length (now (fifo .entry))) in (a ≡ answerBy t) × (now (w .exit) ≡ leftBy t (now (w .entry)) (arrived (now (w .entry)) ep (length (now (bytes .entry))))) × (now (fifo .exit) ≡ leftBy t (now (fifo .entry)) (pasted (now (fifo .entry)) (areaIn b ep Out .start) (now (bytes .entry))))) ⌝ }
 {
     let t = arrival_refusal(b, w, f, ep, bytes.len(), fifo.len());
     match t {
-        Admission::Refused(x) => Happened::Refused(x),
+        Admission::Refused(x) => EventAnswer::Refused(x),
         Admission::Clear => {
-            let s = record::area(b, ep, Direction::Out);
+            let s = record_ops::area(b, ep, Direction::Out);
             events::arrive(w, ep, bytes, s, fifo);
-            Happened::Done
+            EventAnswer::Done
         }
     }
 }
 
-pub fn arrival(k: Record, ep: u8, bytes: &[u8], fifo: &mut [u8]) -> Host
+pub fn arrival(k: Record, ep: u8, bytes: &[u8], fifo: &mut [u8]) -> EventCalled
     ensures { λ a. ⌜ record { event = a; fifo = now (fifo .exit) } ≡ arrivalCall k ep (now (bytes .entry)) (now (fifo .entry)) ⌝ }
 {
     let r = k.regs;
@@ -245,7 +222,7 @@ pub fn arrival(k: Record, ep: u8, bytes: &[u8], fifo: &mut [u8]) -> Host
     let b = r.board;
     let mut w = r.words;
     let a = arrive_if(b, &mut w, f, ep, bytes, fifo);
-    Host {
+    EventCalled {
         answer: a,
         record: Record {
             regs: Regs { board: b, words: w },
@@ -273,28 +250,28 @@ fn collection_refusal(b: Board, w: &[u16; 46], f: Flags, ep: u8, memory: usize) 
 }
 
 // The place is asked before the packet is dropped.
-fn collect(b: Board, w: &mut [u16; 46], ep: u8) -> Taken
+fn collect(b: Board, w: &mut [u16; 46], ep: u8) -> CollectAnswer
     requires { ⌜ ep < 6 ⌝ }
     ensures { λ a. ⌜ (a ≡ packetIn b (now (w .entry)) ep) × (now (w .exit) ≡ collected (now (w .entry)) ep) ⌝ }
 {
-    let s = record::area(b, ep, Direction::In);
+    let s = record_ops::area(b, ep, Direction::In);
     let n = events::waiting_len(w, ep, Direction::In);
     events::collect(w, ep);
-    Taken::Done(s.start, n as usize)
+    CollectAnswer::Done(s.start, n as usize)
 }
 
-fn collect_if(b: Board, w: &mut [u16; 46], f: Flags, ep: u8, memory: usize) -> Taken
+fn collect_if(b: Board, w: &mut [u16; 46], f: Flags, ep: u8, memory: usize) -> CollectAnswer
     ensures { λ a. ⌜ (a ≡ takenBy (collectionRefusalIn b (now (w .entry)) f ep memory) (packetIn b (now (w .entry)) ep)) × (now (w .exit) ≡ leftBy (collectionRefusalIn b (now (w .entry)) f ep memory) (now (w .entry)) (collected (now (w .entry)) ep)) ⌝ }
 {
     let t = collection_refusal(b, w, f, ep, memory);
     match t {
-        Admission::Refused(x) => Taken::Refused(x),
+        Admission::Refused(x) => CollectAnswer::Refused(x),
         Admission::Clear => collect(b, w, ep),
     }
 }
 
 // The buffer is lent so that the place that is given lies in it; its bytes are the caller's to read.
-pub fn collection(k: Record, ep: u8, fifo: &[u8]) -> Collected
+pub fn collection(k: Record, ep: u8, fifo: &[u8]) -> CollectCalled
     ensures { λ a. ⌜ (a ≡ collectionCall k ep (now (fifo .entry))) × InBuffer (a .answer) (now (fifo .entry)) ⌝ }
 {
     let r = k.regs;
@@ -304,7 +281,7 @@ pub fn collection(k: Record, ep: u8, fifo: &[u8]) -> Collected
     let b = r.board;
     let mut w = r.words;
     let a = collect_if(b, &mut w, f, ep, fifo.len());
-    Collected {
+    CollectCalled {
         answer: a,
         record: Record {
             regs: Regs { board: b, words: w },
@@ -316,11 +293,11 @@ pub fn collection(k: Record, ep: u8, fifo: &[u8]) -> Collected
 }
 
 // Document 01's number of an answer.
-pub fn happened_number(a: Happened) -> u8
+pub fn happened_number(a: EventAnswer) -> u8
     ensures { λ n. ⌜ n ≡ happenedNumber a ⌝ }
 {
     match a {
-        Happened::Done => 0,
-        Happened::Refused(x) => record::refusal_number(x),
+        EventAnswer::Done => 0,
+        EventAnswer::Refused(x) => record_ops::refusal_number(x),
     }
 }

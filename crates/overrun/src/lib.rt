@@ -7,7 +7,7 @@ ghost use mathlib.Core.Path.{_≡_};
 ghost use Prim.Native.Nat.{_+_, _*_, _≤_};
 ghost use lib.ListN.{length};
 ghost use Rattle.store_rules.specs.Stores.{log};
-ghost use Rattle.overrun.specs.Common.{underRunCleared, overRunCleared, missedAt, missedTo, selectedBelow, repairedBelow, checkOverrun};
+ghost use Rattle.common_rules.specs.Overrun.{underRunCleared, overRunCleared, missedAt, missedTo, selectedBelow, repairedBelow, checkOverrun};
 
 fn clear_under_run(w: &mut [u16; 46], list: &mut [u16], n: usize) -> usize
     requires { ⌜ n * 3 + 3 ≤ length (now list) ⌝ }

@@ -6,17 +6,17 @@ use board::Direction;
 use control_state::ControlState;
 use csr::Csr0lSet;
 use record::Flags;
-use record::Refusal;
+use transfer_rules::Served;
 ghost use mathlib.Core.Path.{_≡_};
 ghost use Prim.Native.Nat.{_+_, _*_, _≤_};
 ghost use lib.ListN.{length};
 ghost use Rattle.store_rules.specs.Stores.{log};
-ghost use Rattle.peek.specs.Peek.{shortIn, txPktRdy, rxPktRdy, rxCount, afterOf, blocked, ended};
+ghost use Rattle.transfer_rules.specs.Peek.{shortIn, txPktRdy, rxPktRdy, rxCount, afterOf, blocked, ended};
 
 pub fn is_short(b: Board, fifo: usize, list: usize) -> bool
     ensures { λ s. ⌜ s ≡ shortIn b fifo list ⌝ }
 {
-    (fifo < record::need(b)) | (list < record::LIST)
+    (fifo < record_ops::need(b)) | (list < record_ops::LIST)
 }
 
 pub fn tx_pkt_rdy(w: &[u16; 46], e: u8) -> bool
@@ -38,20 +38,6 @@ pub fn rx_count(w: &[u16; 46], e: u8) -> u16
 {
     let s = regs::side_at(w, e as u16, Direction::Out);
     s.len
-}
-
-// What the tests come to. Blocked is reply 6, the one refusal that stores.
-pub enum Verdict {
-    Clear,
-    Blocked,
-    Refused(Refusal),
-}
-
-// What the steps hand on, besides the registers and the list: how many stores stand in the list, the control state, the flags.
-pub struct Served {
-    pub n: usize,
-    pub control_state: ControlState,
-    pub irq: Flags,
 }
 
 // Reply 6: the endpoint is selected.

@@ -1,5 +1,6 @@
 // The walk of `poll` of the source over the receive flags, its `BitIter` as a loop over the lowest set bit.
 use board::Direction;
+use round_rules::Walked;
 ghost use mathlib.Core.Path.{_≡_};
 ghost use mathlib.Core.Bool.{cond};
 ghost use Prim.Native.Nat.{_+_, _*_, _≤_, _<_};
@@ -8,13 +9,7 @@ ghost use Rattle.laws.specs.Words.{clear, Lowest};
 ghost use Rattle.board.specs.declared.Direction.the-variants.{Out};
 ghost use Rattle.register_file.specs.Registers.{sideAt};
 ghost use Rattle.store_rules.specs.Stores.{log};
-ghost use Rattle.poll_walk.specs.Round.{walkOf, walked};
-
-// What the walk hands on.
-pub struct Walked {
-    pub n: usize,
-    pub out: u16,
-}
+ghost use Rattle.round_rules.specs.Walk.{walkOf, walked};
 
 // A word without one of its flags.
 pub fn without(w: u16, i: u8) -> u16

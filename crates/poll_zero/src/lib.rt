@@ -3,26 +3,14 @@ use control_state::ControlState;
 use control_state::ControlStateEnum;
 use csr::Csr0lSet;
 use record::Flags;
+use round_rules::Progress;
+use round_rules::Stepped;
 ghost use mathlib.Core.Path.{_≡_};
 ghost use mathlib.Core.Bool.{true, false};
 ghost use Prim.Native.Nat.{_+_, _*_, _≤_, _<_};
 ghost use lib.ListN.{length};
 ghost use Rattle.store_rules.specs.Stores.{log};
-ghost use Rattle.poll_zero.specs.Round.{roundOf, sentBy, setupTaken, restarted, cutShort, receivedBy, zeroServed, endpointZero, putBack, acceptStep};
-
-// What the steps of a round hand on, besides the registers.
-pub struct Progress {
-    pub n: usize,
-    pub control_state: ControlState,
-    pub irq: Flags,
-    pub setup: bool,
-}
-
-// What the Accepted step changes.
-pub struct Stepped {
-    pub control_state: ControlState,
-    pub irq: Flags,
-}
+ghost use Rattle.round_rules.specs.Zero.{roundOf, sentBy, setupTaken, restarted, cutShort, receivedBy, zeroServed, endpointZero, putBack, acceptStep};
 
 // Nothing waits at endpoint 0 and nothing is on its way: in DataIn a packet has gone.
 fn sent(s: ControlStateEnum, f: Flags) -> Flags

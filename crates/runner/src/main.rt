@@ -49,13 +49,13 @@ fn report_given(detail: bool) {
     io::read_full(0, &mut head);
     io::read_full(0, &mut fifo);
     let n = io::read_full(0, &mut trace);
-    reporter::put_report(&trace[..n], detail, given::record_from(&head), fifo);
+    trace_reporter::put_report(&trace[..n], detail, trace_given::record_from(&head), fifo);
 }
 
 fn report_fresh(detail: bool) {
     let mut trace = [0u8; 65537];
     let n = io::read_full(0, &mut trace);
-    reporter::put_fresh(&trace[..n], detail);
+    trace_reporter::put_fresh(&trace[..n], detail);
 }
 
 fn main() {

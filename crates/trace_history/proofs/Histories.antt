@@ -8,22 +8,22 @@ use borrow.Author.Tests.{le-leb}
 use lib.ListN.{length, take, length-append}
 use lib.Seq.{take-at}
 use Rattle.record.specs.declared.Record.{Record}
-use Rattle.arguments.specs.declared.BusEvent.the-variants as bus
-use Rattle.entries.specs.declared.Entry.{Entry}
-use Rattle.entries.specs.declared.Entry.the-variants.{Allocate, Init, Reset, Address, Write, Read, Stall, IsStalled, Poll, Interrupt, Enable, Arrival, Collect, Bus, SetupEnd, Underrun, Overrun}
-use Rattle.entries.specs.declared.Parsed.{Parsed}
-use Rattle.entries.specs.declared.Parsed.the-variants.{Found, End, Bad}
-use Rattle.entries.specs.Entries.{entryAt}
-use Rattle.entries.proofs.Inside.{moves}
+use Rattle.trace_rules.specs.declared.BusEvent.the-variants as bus
+use Rattle.trace_rules.specs.declared.Entry.{Entry}
+use Rattle.trace_rules.specs.declared.Entry.the-variants.{Allocate, Init, Reset, Address, Write, Read, Stall, IsStalled, Poll, Interrupt, Enable, Arrival, Collect, Bus, SetupEnd, Underrun, Overrun}
+use Rattle.trace_rules.specs.declared.Parsed.{Parsed}
+use Rattle.trace_rules.specs.declared.Parsed.the-variants.{Found, End, Bad}
+use Rattle.trace_rules.specs.Entries.{entryAt}
+use Rattle.trace_rules.proofs.Inside.{moves}
 use Rattle.calls.specs.Calls as calls
-use Rattle.report.specs.Text.{line, header}
-use Rattle.text.proofs.Appended.{front}
-use Rattle.act.specs.Act.{State, state, acted}
-use Rattle.trace.specs.declared.Came.the-variants.{Line}
-use Rattle.trace.specs.declared.Stepped.{Stepped}
-use Rattle.trace.specs.Report.{lineOf, reportBy, reportFrom, restOf, reportFor, StepOutcome, stepped, stepBy, stepOf}
-use Rattle.trace.specs.Runs.{Took, Reached, begins, goes}
-use Rattle.trace.proofs.Whole.{line-not-end, line-not-bad}
+use Rattle.trace_rules.specs.Lines.{line, header}
+use Rattle.trace_rules.proofs.Appended.{front}
+use Rattle.report_rules.specs.Act.{State, state, acted}
+use Rattle.report_rules.specs.declared.Came.the-variants.{Line}
+use Rattle.report_rules.specs.declared.Stepped.{Stepped}
+use Rattle.report_rules.specs.Report.{lineOf, reportBy, reportFrom, restOf, reportFor, StepOutcome, stepped, stepBy, stepOf}
+use Rattle.report_rules.specs.Runs.{Took, Reached, begins, goes}
+use Rattle.report_rules.proofs.Whole.{line-not-end, line-not-bad}
 use Rattle.trace_history.specs.Operations.{operation}
 use Rattle.trace_history.specs.History.{entriesBy, entriesFrom, entriesOf, after, operationsFrom, operationsOf, lineFor, linesOf, lastBy, lastFrom, lastOf, Same, Along}
 

@@ -6,21 +6,21 @@ use mathlib.Core.Path.{_≡_}
 use mathlib.Core.List.{List, [], _∷_, _++_, foldl}
 use lib.ListN.{length, take}
 use Rattle.record.specs.declared.Record.{Record}
-use Rattle.usb_device_alloc.specs.Calls.{allocEpCall, allocationValues}
-use Rattle.usb_device_stall.specs.Calls.{isStalledCall, toldValues}
-use Rattle.usb_device_write.specs.Write.{writeCall}
-use Rattle.write_zero.specs.Write.{wroteValues}
-use Rattle.usb_device_read.specs.Read.{readCall}
-use Rattle.read_zero.specs.Read.{gotValues}
-use Rattle.usb_device_poll.specs.Poll.{pollCall, pollValues}
-use Rattle.host.specs.Host.{collectionCall, takenValues}
+use Rattle.call_rules.specs.Alloc.{allocEpCall, allocationValues}
+use Rattle.call_rules.specs.Stall.{isStalledCall, toldValues}
+use Rattle.transfer_rules.specs.Write.{writeCall}
+use Rattle.transfer_rules.specs.WriteZero.{wroteValues}
+use Rattle.transfer_rules.specs.Read.{readCall}
+use Rattle.transfer_rules.specs.ReadZero.{gotValues}
+use Rattle.round_rules.specs.Poll.{pollCall, pollValues}
+use Rattle.host_rules.specs.Host.{collectionCall, takenValues}
 use Rattle.calls.specs.Calls.{Op, allocEp, busInit, enable, reset, setDeviceAddress, write, read, setStalled, isStalled, poll, onInterrupt, forceReset, arrival, collection, busReset, suspend, resume, setupEnd, underrun, overrun, Outcome, outcome, step}
-use Rattle.report.specs.Text.{line, endLine, badLine}
-use Rattle.entries.specs.declared.Entry.{Entry}
-use Rattle.entries.specs.declared.Parsed.{Parsed}
-use Rattle.entries.specs.declared.Parsed.the-variants.{Found, End, Bad}
-use Rattle.entries.specs.Entries.{codeOf, entryAt}
-use Rattle.act.specs.Act.{State, state, actedOn}
+use Rattle.trace_rules.specs.Lines.{line, endLine, badLine}
+use Rattle.trace_rules.specs.declared.Entry.{Entry}
+use Rattle.trace_rules.specs.declared.Parsed.{Parsed}
+use Rattle.trace_rules.specs.declared.Parsed.the-variants.{Found, End, Bad}
+use Rattle.trace_rules.specs.Entries.{codeOf, entryAt}
+use Rattle.report_rules.specs.Act.{State, state, actedOn}
 use Rattle.trace_history.specs.Operations.{operation}
 
 -- The entries of a trace in order, up to its end or to the first that is bad; which they are does not hang on what they do. At most so many:

@@ -5,11 +5,11 @@ use mathlib.Core.List.{List}
 use lib.ListN.{replicate}
 use Rattle.endpoints.specs.Endpoints.{ask}
 use Rattle.calls.specs.Calls as calls
-use Rattle.arguments.specs.declared.BusEvent.{BusEvent}
-use Rattle.arguments.specs.declared.BusEvent.the-variants as bus
-use Rattle.entries.specs.declared.Entry.{Entry}
-use Rattle.entries.specs.declared.Entry.the-variants.{Allocate, Init, Reset, Address, Write, Read, Stall, IsStalled, Poll, Interrupt, Enable, Arrival, Collect, Bus, SetupEnd, Underrun, Overrun}
-use Rattle.act.specs.Act.{packet}
+use Rattle.trace_rules.specs.declared.BusEvent.{BusEvent}
+use Rattle.trace_rules.specs.declared.BusEvent.the-variants as bus
+use Rattle.trace_rules.specs.declared.Entry.{Entry}
+use Rattle.trace_rules.specs.declared.Entry.the-variants.{Allocate, Init, Reset, Address, Write, Read, Stall, IsStalled, Poll, Interrupt, Enable, Arrival, Collect, Bus, SetupEnd, Underrun, Overrun}
+use Rattle.report_rules.specs.Act.{packet}
 
 abbrev pub busOperation : BusEvent → calls.Op
 busOperation bus.Reset = calls.busReset

@@ -1,8 +1,10 @@
 // The call `alloc_ep` of the source's usb_device_impl/mod.rs: an endpoint by the source's alloc_endpoint.rs. No list is lent.
 use board::Board;
 use board::Direction;
+use call_rules::AllocAnswer;
+use call_rules::AllocCalled;
+use call_rules::Assigned;
 use endpoints::Answer;
-use endpoints::EndpointAllocError;
 use endpoints::EndpointData;
 use endpoints::EndpointType;
 use endpoints::Wanted;
@@ -11,34 +13,16 @@ use record::Refusal;
 ghost use mathlib.Core.Path.{_≡_};
 ghost use Rattle.board.specs.Boards.{rows};
 ghost use Rattle.endpoints.specs.Endpoints.{ask};
-ghost use Rattle.usb_device_alloc.specs.Calls.{allocated, assignedIf, allocEpCall};
-
-// The answer of `alloc_ep`: the endpoint, or the source's own error, before the trait's takes its place.
-pub enum Allocation {
-    Done(u8),
-    NotGiven(EndpointAllocError),
-    Refused(Refusal),
-}
-
-pub struct AllocEp {
-    pub answer: Allocation,
-    pub record: Record,
-}
+ghost use Rattle.call_rules.specs.Alloc.{allocated, assignedIf, allocEpCall};
 
 // The answer of alloc_endpoint, as `alloc_ep` hands it on.
-fn handed_on(a: Answer) -> Allocation
+fn handed_on(a: Answer) -> AllocAnswer
     ensures { λ r. ⌜ r ≡ allocated a ⌝ }
 {
     match a {
-        Answer::Done(n) => Allocation::Done(n),
-        Answer::Refused(e) => Allocation::NotGiven(e),
+        Answer::Done(n) => AllocAnswer::Done(n),
+        Answer::Refused(e) => AllocAnswer::NotGiven(e),
     }
-}
-
-// The answer and the endpoints, which are all that `alloc_ep` changes.
-struct Assigned {
-    answer: Allocation,
-    endpoints: [EndpointData; 6],
 }
 
 fn allocate(
@@ -62,7 +46,7 @@ fn allocate(
         };
     }
     Assigned {
-        answer: Allocation::Refused(Refusal::BadRecord),
+        answer: AllocAnswer::Refused(Refusal::BadRecord),
         endpoints: e,
     }
 }
@@ -74,7 +58,7 @@ pub fn alloc_ep(
     ep_addr: Wanted,
     ep_type: EndpointType,
     max_packet_size: u16,
-) -> AllocEp
+) -> AllocCalled
     ensures { λ a. ⌜ a ≡ allocEpCall k (ask «ep_type» «ep_dir» «max_packet_size») «ep_addr» ⌝ }
 {
     let r = k.regs;
@@ -83,11 +67,11 @@ pub fn alloc_ep(
     let e = k.endpoints;
     let c = k.control_state;
     let f = k.irq;
-    let ok = record::sound(b, &w, f);
+    let ok = record_ops::sound(b, &w, f);
     let o = allocate(ok, b, e, ep_dir, ep_addr, ep_type, max_packet_size);
     let a = o.answer;
     let next = o.endpoints;
-    AllocEp {
+    AllocCalled {
         answer: a,
         record: Record {
             regs: r,

@@ -4,7 +4,7 @@ use contract.Lifetimes.{Lfts}
 use borrow.Fn.Kinds.{Dens, resT, endedOf}
 use denote.Triple.Clauses.{AtExit}
 use denote.Ref.{now}
-use Rattle.usb_device_impl.specs.Calls.{Outcome}
+use Rattle.call_rules.specs.Calls.{Outcome}
 use Rattle.usb_device_impl.proofs.bus_init.Kinds as bus-init-kinds
 use Rattle.usb_device_impl.proofs.bus_init.Reads as bus-init-reads
 use Rattle.usb_device_impl.proofs.enable.Kinds as enable-kinds

@@ -3,6 +3,9 @@
 // its answer, the record and how many stores stand in the list. It takes the record apart once: what runs below it is lent the register
 // file and takes only the other parts that it looks at.
 use board::Board;
+use call_rules::Called;
+use call_rules::Ran;
+use call_rules::Reply;
 use control_state::ControlState;
 use control_state::ControlStateEnum;
 use record::Admission;
@@ -17,29 +20,10 @@ ghost use Rattle.record.specs.Record.{passes, admissionBy, endpointsIn, listNee
 ghost use lib.Dec.{leb, ltb};
 ghost use mathlib.Core.Bool.{false};
 ghost use Rattle.record.specs.declared.Admission.the-variants.{Clear};
-ghost use Rattle.usb_device_impl.specs.Calls.{ranDone, ranRefused, ended, left, addressEntry, busInitRan, enableRan, addressRan, busInitCall, enableCall, addressCall, idled, forceResetCall, replyNumber};
+ghost use Rattle.call_rules.specs.Calls.{ranDone, ranRefused, ended, left, addressEntry, busInitRan, enableRan, addressRan, busInitCall, enableCall, addressCall, idled, forceResetCall, replyNumber};
 
 // The source's constant: the address is set before the status stage of its request.
 pub const QUIRK_SET_ADDRESS_BEFORE_STATUS: bool = true;
-
-// The answer of a call that has no value.
-pub enum Reply {
-    Done,
-    Refused(Refusal),
-}
-
-pub struct Called {
-    pub answer: Reply,
-    pub record: Record,
-    pub stores: usize,
-}
-
-// What a call leaves besides the registers: how many stores stand in the list, and the control state.
-pub struct Ran {
-    pub answer: Reply,
-    pub n: usize,
-    pub control_state: ControlState,
-}
 
 // What a call leaves that has made its stores.
 pub fn done(n: usize, c: ControlState) -> Ran
@@ -89,14 +73,14 @@ pub fn finish(k: Record, w: [u16; 46], o: Ran) -> Called
 pub fn admit(numbers: usize, b: Board, w: &[u16; 46], f: Flags, beyond: bool) -> Admission
     ensures { λ a. ⌜ (a ≡ admissionBy (ltb numbers listNeed) (passes b (now (w .entry)) f) beyond) × (a ≡ Clear → listNeed ≤ numbers) ⌝ }
 {
-    record::admit(numbers < record::LIST, b, w, f, beyond)
+    record_ops::admit(numbers < record_ops::LIST, b, w, f, beyond)
 }
 
 // The same of a call at an endpoint.
 pub fn admit_at(numbers: usize, b: Board, w: &[u16; 46], f: Flags, ep: u8) -> Admission
     ensures { λ a. ⌜ (a ≡ admissionBy (ltb numbers listNeed) (passes b (now (w .entry)) f) (leb (endpointsIn b) ep)) × (a ≡ Clear → listNeed ≤ numbers) ⌝ }
 {
-    admit(numbers, b, w, f, record::endpoints(b) <= ep)
+    admit(numbers, b, w, f, record_ops::endpoints(b) <= ep)
 }
 
 fn run_bus_init(b: Board, w: &mut [u16; 46], list: &mut [u16], c: ControlState, f: Flags) -> Ran
@@ -217,6 +201,6 @@ pub fn reply_number(a: Reply) -> u8
 {
     match a {
         Reply::Done => 0,
-        Reply::Refused(x) => record::refusal_number(x),
+        Reply::Refused(x) => record_ops::refusal_number(x),
     }
 }

@@ -1,6 +1,9 @@
 // `on_interrupt` of the source: it reads the three interrupt registers, which clears them, and takes what it read into the flags.
 use board::Board;
 use board::Direction;
+use call_rules::InterruptAnswer;
+use call_rules::InterruptCalled;
+use call_rules::Snapshot;
 use event_rules::BusEvent;
 use record::Flags;
 use record::Record;
@@ -12,24 +15,7 @@ ghost use Prim.Native.Nat.{_<_, _≤_};
 ghost use Rattle.laws.specs.Words.{bit};
 ghost use Rattle.event_rules.specs.Events.{busBit};
 ghost use Rattle.record.specs.Record.{endpointsIn};
-ghost use Rattle.usb_device_interrupt.specs.Interrupt.{snapshotOf, cleared, busTaken, raisedIf, endpointTaken, taken, answerBy, interruptCall};
-
-// What the three reads find: `intrusb`, `intrtx`, `intrrx`.
-pub struct Snapshot {
-    pub usb: u16,
-    pub tx: u16,
-    pub rx: u16,
-}
-
-pub enum Interrupted {
-    Done,
-    Refused(Refusal),
-}
-
-pub struct OnInterrupt {
-    pub answer: Interrupted,
-    pub record: Record,
-}
+ghost use Rattle.call_rules.specs.Interrupt.{snapshotOf, cleared, busTaken, raisedIf, endpointTaken, taken, answerBy, interruptCall};
 
 fn snap(w: &mut [u16; 46]) -> Snapshot
     ensures { λ s. ⌜ (s ≡ snapshotOf (now (w .entry))) × (now (w .exit) ≡ cleared (now (w .entry))) ⌝ }
@@ -101,21 +87,21 @@ fn interrupt_if(ok: bool, b: Board, w: &mut [u16; 46], f: Flags) -> Flags
 {
     if ok {
         let s = snap(w);
-        return take(record::endpoints(b), s, f);
+        return take(record_ops::endpoints(b), s, f);
     }
     f
 }
 
-fn answer(ok: bool) -> Interrupted
+fn answer(ok: bool) -> InterruptAnswer
     ensures { λ a. ⌜ a ≡ answerBy ok ⌝ }
 {
     if ok {
-        return Interrupted::Done;
+        return InterruptAnswer::Done;
     }
-    Interrupted::Refused(Refusal::BadRecord)
+    InterruptAnswer::Refused(Refusal::BadRecord)
 }
 
-pub fn on_interrupt(k: Record) -> OnInterrupt
+pub fn on_interrupt(k: Record) -> InterruptCalled
     ensures { λ o. ⌜ o ≡ interruptCall k ⌝ }
 {
     let r = k.regs;
@@ -123,9 +109,9 @@ pub fn on_interrupt(k: Record) -> OnInterrupt
     let c = k.control_state;
     let b = r.board;
     let mut w = r.words;
-    let ok = record::sound(b, &w, k.irq);
+    let ok = record_ops::sound(b, &w, k.irq);
     let f = interrupt_if(ok, b, &mut w, k.irq);
-    OnInterrupt {
+    InterruptCalled {
         answer: answer(ok),
         record: Record {
             regs: Regs { board: b, words: w },

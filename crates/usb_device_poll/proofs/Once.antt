@@ -4,7 +4,7 @@ use contract.Lifetimes.{Lfts}
 use borrow.Fn.Kinds.{Dens, resT, endedOf}
 use denote.Ref.{now}
 use denote.Triple.Clauses.{AtExit}
-use Rattle.usb_device_poll.specs.Poll.{PollOutcome}
+use Rattle.round_rules.specs.Poll.{PollOutcome}
 use Rattle.usb_device_poll.proofs.poll.Kinds as kinds
 use Rattle.usb_device_poll.proofs.poll.Reads as reads
 

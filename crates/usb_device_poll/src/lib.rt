@@ -1,46 +1,24 @@
 // `poll` of the source: the overrun check, Reset, Resume, Suspend, and then a round: endpoint 0, and the walk of the receive flags.
 use board::Board;
 use control_state::ControlState;
-use poll_zero::Progress;
 use record::Admission;
 use record::Flags;
 use record::Record;
-use record::Refusal;
 use register_file::Regs;
+use round_rules::Answered;
+use round_rules::Masks;
+use round_rules::PollAnswer;
+use round_rules::PollCalled;
+use round_rules::PollResult;
+use round_rules::Progress;
 ghost use mathlib.Core.Path.{_≡_};
 ghost use mathlib.Core.Bool.{false, cond};
 ghost use Prim.Native.Nat.{_+_, _*_, _≤_, _<_};
 ghost use lib.ListN.{length};
 ghost use Rattle.store_rules.specs.Stores.{log};
-ghost use Rattle.usb_device_poll.specs.Round.{withReset, told};
-ghost use Rattle.poll_zero.specs.Round.{roundOf};
-ghost use Rattle.usb_device_poll.specs.Poll.{outcome, afterOf, polled, walkedOn, acceptedOn, roundOut, pollLogged, pollServed, pollAdmitted, pollCall};
-
-// The masks of a Data answer, a bit for each endpoint.
-pub struct Masks {
-    pub ep_out: u16,
-    pub ep_in_complete: u16,
-    pub ep_setup: u16,
-}
-
-pub enum PollResult {
-    None,
-    Data(Masks),
-    Reset,
-    Resume,
-    Suspend,
-}
-
-pub enum PollAnswer {
-    Done(PollResult),
-    Refused(Refusal),
-}
-
-pub struct Polled {
-    pub answer: PollAnswer,
-    pub record: Record,
-    pub stores: usize,
-}
+ghost use Rattle.round_rules.specs.Round.{withReset, told};
+ghost use Rattle.round_rules.specs.Zero.{roundOf};
+ghost use Rattle.round_rules.specs.Poll.{outcome, afterOf, polled, walkedOn, acceptedOn, roundOut, pollLogged, pollServed, pollAdmitted, pollCall};
 
 fn setup_mask(setup: bool) -> u16
     ensures { λ m. ⌜ m ≡ cond setup 1 0 ⌝ }
@@ -60,14 +38,6 @@ fn tell(out: u16, sent: u16, setup: bool) -> PollResult
         return PollResult::Data(m);
     }
     PollResult::None
-}
-
-// What a poll leaves besides the registers.
-struct Answered {
-    answer: PollAnswer,
-    n: usize,
-    control_state: ControlState,
-    irq: Flags,
 }
 
 fn answer(a: PollResult, n: usize, c: ControlState, f: Flags) -> Answered
@@ -149,14 +119,14 @@ fn serve(b: Board, w: &mut [u16; 46], list: &mut [u16], c: ControlState, f: Flag
     requires { ⌜ (f .«ep_rx» < 64) × (384 ≤ length (now list)) ⌝ }
     ensures { λ p. ⌜ afterOf p (now (w .exit)) (now (list .exit)) ≡ pollServed b (log (now (w .entry)) (now (list .entry)) 0) c f ⌝ }
 {
-    let n = overrun::check_overrun(w, list, 0, record::endpoints(b));
+    let n = overrun::check_overrun(w, list, 0, record_ops::endpoints(b));
     by_flags(w, list, n, c, f)
 }
 
 fn admitted(b: Board, w: &mut [u16; 46], list: &mut [u16], c: ControlState, f: Flags) -> Answered
     ensures { λ p. ⌜ afterOf p (now (w .exit)) (now (list .exit)) ≡ pollAdmitted b (now (w .entry)) (now (list .entry)) c f ⌝ }
 {
-    let e = record::admit(list.len() < record::LIST, b, w, f, false);
+    let e = record_ops::admit(list.len() < record_ops::LIST, b, w, f, false);
     match e {
         Admission::Refused(x) => Answered {
             answer: PollAnswer::Refused(x),
@@ -168,7 +138,7 @@ fn admitted(b: Board, w: &mut [u16; 46], list: &mut [u16], c: ControlState, f: F
     }
 }
 
-pub fn poll(k: Record, list: &mut [u16]) -> Polled
+pub fn poll(k: Record, list: &mut [u16]) -> PollCalled
     ensures { λ p. ⌜ outcome p (now (list .exit)) ≡ pollCall k (now (list .entry)) ⌝ }
 {
     let r = k.regs;
@@ -179,7 +149,7 @@ pub fn poll(k: Record, list: &mut [u16]) -> Polled
     let a = o.answer;
     let c = o.control_state;
     let f = o.irq;
-    Polled {
+    PollCalled {
         answer: a,
         record: Record {
             regs: Regs { board: b, words: w },

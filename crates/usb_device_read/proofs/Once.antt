@@ -6,7 +6,7 @@ use contract.Lifetimes.{Lfts}
 use borrow.Fn.Kinds.{Dens, resT, endedOf}
 use denote.Ref.{now}
 use denote.Triple.Clauses.{AtExit}
-use Rattle.usb_device_read.specs.Read.{ReadOutcome}
+use Rattle.transfer_rules.specs.Read.{ReadOutcome}
 use Rattle.usb_device_read.proofs.read.Kinds as kinds
 use Rattle.usb_device_read.proofs.read.Reads as reads
 

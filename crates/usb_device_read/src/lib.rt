@@ -1,31 +1,249 @@
 // The call `read` of the source's usb_device_impl: the packet that waits in an endpoint's receive area, into the caller's buffer.
-// Refusals are tested first, in document 01's order; after them the steps are the source's, in its order.
+// What is refused is tested before anything changes, in document 01's order (the source selects the endpoint first, and panics where it
+// can't go on); after that the steps are the source's, in its order: endpoint 0's by the control state, then those of the others.
 use board::Board;
 use board::Direction;
 use control_state::ControlState;
+use control_state::ControlStateEnum;
+use csr::Csr0lSet;
 use csr::RxcsrlSet;
-use peek::Served;
-use peek::Verdict;
-use read_zero::Fetched;
-use read_zero::Got;
+use record::Admission;
 use record::Flags;
 use record::Record;
 use record::Refusal;
 use register_file::Regs;
+use transfer_rules::ReadAnswer;
+use transfer_rules::ReadCalled;
+use transfer_rules::Served;
+use transfer_rules::Took;
+use transfer_rules::Verdict;
 ghost use mathlib.Core.Path.{_≡_};
 ghost use mathlib.Core.Bool.{true};
-ghost use Prim.Native.Nat.{_+_, _*_, _≤_};
-ghost use lib.ListN.{length};
+ghost use Prim.Native.Nat.{_<_, _+_, _*_, _≤_};
+ghost use Rattle.transfer_rules.specs.ReadTests.{unreadableIn, notReadable, notSetupIn, notSetup, ownTestsAt, testsIn};
+ghost use lib.ListN.{length, getD};
+ghost use Rattle.store_rules.specs.Stores.{log};
+ghost use Rattle.transfer_rules.specs.Peek.{afterOf, rxCount};
+ghost use Rattle.transfer_rules.specs.ReadZero.{wLength, wayIn, afterSetup, setUp, dataOut, zeroBy, readZero};
 ghost use Rattle.board.specs.declared.Direction.the-variants.{Out};
 ghost use Rattle.record.specs.Record.{areaIn, needIn, passes};
-ghost use Rattle.store_rules.specs.Stores.{log};
-ghost use Rattle.peek.specs.Peek.{rxCount, afterOf};
-ghost use Rattle.usb_device_read.specs.Read.{tookOf, copied, readOther, got, taken, readIn, readCall};
+ghost use Rattle.transfer_rules.specs.Read.{tookOf, copied, readOther, got, taken, readIn, readCall};
 
-// What the steps hand on, and the answer.
-struct Took {
-    answer: Got,
-    served: Served,
+// The source panics in these states.
+fn unreadable_in(s: ControlStateEnum) -> bool
+    ensures { λ b. ⌜ b ≡ unreadableIn s ⌝ }
+{
+    match s {
+        ControlStateEnum::Idle => true,
+        ControlStateEnum::Setup => false,
+        ControlStateEnum::DataIn => true,
+        ControlStateEnum::DataOut => false,
+        ControlStateEnum::Accepted => true,
+        ControlStateEnum::NodataPhase => true,
+    }
+}
+
+fn not_readable(c: ControlState, ep: u8) -> bool
+    ensures { λ b. ⌜ b ≡ notReadable c ep ⌝ }
+{
+    let s = c.state;
+    (ep == 0) & unreadable_in(s)
+}
+
+// The source asserts a count of 8, and panics where the buffer has no byte 7.
+fn not_setup_in(s: ControlStateEnum, n: u16, room: usize) -> bool
+    ensures { λ b. ⌜ b ≡ notSetupIn s n room ⌝ }
+{
+    match s {
+        ControlStateEnum::Idle => false,
+        ControlStateEnum::Setup => !(n == 8) | (room < 8),
+        ControlStateEnum::DataIn => false,
+        ControlStateEnum::DataOut => false,
+        ControlStateEnum::Accepted => false,
+        ControlStateEnum::NodataPhase => false,
+    }
+}
+
+fn not_setup(w: &[u16; 46], c: ControlState, ep: u8, room: usize) -> bool
+    ensures { λ b. ⌜ b ≡ notSetup (now (w .entry)) c ep room ⌝ }
+{
+    let s = c.state;
+    (ep == 0) & not_setup_in(s, peek::rx_count(w, ep), room)
+}
+
+// Read's own tests, in their order: 6, 12, 13.
+fn own_tests_at(w: &[u16; 46], c: ControlState, ep: u8, room: usize) -> Verdict
+    ensures { λ v. ⌜ v ≡ ownTestsAt (now (w .entry)) c ep room ⌝ }
+{
+    if !peek::rx_pkt_rdy(w, ep) {
+        return Verdict::Blocked;
+    }
+    if not_readable(c, ep) {
+        return Verdict::Refused(Refusal::NotReadable);
+    }
+    if not_setup(w, c, ep, room) {
+        return Verdict::Refused(Refusal::NotSetup);
+    }
+    Verdict::Clear
+}
+
+// Every test, before anything changes: 15, 16, 8, then 6, 12, 13.
+pub fn refusal(
+    b: Board,
+    w: &[u16; 46],
+    c: ControlState,
+    f: Flags,
+    ep: u8,
+    room: usize,
+    fifo: usize,
+    list: usize,
+) -> Verdict
+    ensures { λ v. ⌜ v ≡ testsIn b (now (w .entry)) c f ep room fifo list ⌝ }
+{
+    let a = record_ops::admit(
+        peek::is_short(b, fifo, list),
+        b,
+        w,
+        f,
+        record_ops::endpoints(b) <= ep,
+    );
+    match a {
+        Admission::Clear => own_tests_at(w, c, ep, room),
+        Admission::Refused(x) => Verdict::Refused(x),
+    }
+}
+
+fn wide(x: u8) -> u16
+    ensures { λ r. ⌜ (r ≡ x) × (r < 256) ⌝ }
+{
+    x as u16
+}
+
+// A byte of the buffer; 0 where it is too short, which it is not in Setup.
+fn byte_at(buf: &[u8], i: usize) -> u16
+    ensures { λ x. ⌜ (x ≡ getD (now (buf .entry)) i 0) × (x < 256) ⌝ }
+{
+    if i < buf.len() {
+        return wide(buf[i]);
+    }
+    0
+}
+
+// wLength, low byte first.
+fn w_length(buf: &[u8]) -> u16
+    ensures { λ n. ⌜ n ≡ wLength (now (buf .entry)) ⌝ }
+{
+    byte_at(buf, 6) + byte_at(buf, 7) * 256
+}
+
+// The direction bit of the request's first byte.
+fn way_in(buf: &[u8]) -> bool
+    ensures { λ b. ⌜ b ≡ wayIn (now (buf .entry)) ⌝ }
+{
+    128 <= byte_at(buf, 0)
+}
+
+// The control state after a Setup packet that announces data.
+fn after_setup(c: ControlState, to_host: bool, n: u16) -> ControlState
+    ensures { λ o. ⌜ o ≡ afterSetup c «to_host» n ⌝ }
+{
+    if to_host {
+        let d = c.set_state(ControlStateEnum::DataIn);
+        return d.set_tx_len(n as u32);
+    }
+    c.set_state(ControlStateEnum::DataOut)
+}
+
+// No store more.
+fn leave(n: usize, c: ControlState, f: Flags) -> Served
+    ensures { λ o. ⌜ o ≡ record { n = n; «control_state» = c; irq = f } ⌝ }
+{
+    Served {
+        n: n,
+        control_state: c,
+        irq: f,
+    }
+}
+
+fn set_up(
+    w: &mut [u16; 46],
+    list: &mut [u16],
+    n: usize,
+    c: ControlState,
+    f: Flags,
+    buf: &[u8],
+) -> Served
+    requires { ⌜ n * 3 + 3 ≤ length (now list) ⌝ }
+    ensures { λ o. ⌜ afterOf o (now (w .exit)) (now (list .exit)) ≡ setUp (now (buf .entry)) c f (log (now (w .entry)) (now (list .entry)) n) ⌝ }
+{
+    let to_host = way_in(buf);
+    let length = w_length(buf);
+    if length == 0 {
+        return peek::end(w, list, n, c.set_state(ControlStateEnum::NodataPhase), f);
+    }
+    leave(n, after_setup(c, to_host, length), f)
+}
+
+// Was the packet the last? It has `count` bytes, and `size` is endpoint 0's recorded receive size.
+fn data_out(
+    w: &mut [u16; 46],
+    list: &mut [u16],
+    n: usize,
+    c: ControlState,
+    f: Flags,
+    count: usize,
+    size: usize,
+) -> Served
+    requires { ⌜ n * 3 + 3 ≤ length (now list) ⌝ }
+    ensures { λ o. ⌜ afterOf o (now (w .exit)) (now (list .exit)) ≡ dataOut count size c f (log (now (w .entry)) (now (list .entry)) n) ⌝ }
+{
+    if count < size {
+        return peek::end(w, list, n, c.set_state(ControlStateEnum::Idle), f);
+    }
+    leave(n, c, f)
+}
+
+// Endpoint 0, by its state. Of the last four none comes here: they are refused before.
+fn zero_by(
+    w: &mut [u16; 46],
+    list: &mut [u16],
+    n: usize,
+    c: ControlState,
+    f: Flags,
+    count: usize,
+    size: usize,
+    buf: &[u8],
+) -> Served
+    requires { ⌜ n * 3 + 3 ≤ length (now list) ⌝ }
+    ensures { λ o. ⌜ afterOf o (now (w .exit)) (now (list .exit)) ≡ zeroBy (c .state) (now (buf .entry)) count size c f (log (now (w .entry)) (now (list .entry)) n) ⌝ }
+{
+    let s = c.state;
+    match s {
+        ControlStateEnum::Setup => set_up(w, list, n, c, f, buf),
+        ControlStateEnum::DataOut => data_out(w, list, n, c, f, count, size),
+        ControlStateEnum::Idle => leave(n, c, f),
+        ControlStateEnum::DataIn => leave(n, c, f),
+        ControlStateEnum::Accepted => leave(n, c, f),
+        ControlStateEnum::NodataPhase => leave(n, c, f),
+    }
+}
+
+// The packet is in the buffer: the endpoint is free for the next.
+pub fn read_zero(
+    w: &mut [u16; 46],
+    list: &mut [u16],
+    n: usize,
+    c: ControlState,
+    f: Flags,
+    count: usize,
+    size: usize,
+    buf: &[u8],
+) -> Served
+    requires { ⌜ n * 3 + 6 ≤ length (now list) ⌝ }
+    ensures { λ o. ⌜ afterOf o (now (w .exit)) (now (list .exit)) ≡ readZero (now (buf .entry)) count size c f (log (now (w .entry)) (now (list .entry)) n) ⌝ }
+{
+    let m = stores::modify_csr0l(w, list, n, Csr0lSet::ServicedRxPktRdy);
+    zero_by(w, list, m, c, f, count, size, buf)
 }
 
 // The bytes of the packet that waits, as many as the buffer holds; all its length is answered.
@@ -34,7 +252,7 @@ fn fetch(b: Board, w: &[u16; 46], ep: u8, buf: &mut [u8], fifo: &[u8]) -> usize
     ensures { λ n. ⌜ (n ≡ rxCount ep (now (w .entry))) × (now (buf .exit) ≡ copied b ep n (now (buf .entry)) (now (fifo .entry))) ⌝ }
 {
     let n = peek::rx_count(w, ep) as usize;
-    let area = record::area(b, ep, Direction::Out);
+    let area = record_ops::area(b, ep, Direction::Out);
     fifo::take_bytes(fifo, area, n, buf);
     n
 }
@@ -67,7 +285,7 @@ fn serve(
     ensures { λ o. ⌜ afterOf o (now (w .exit)) (now (list .exit)) ≡ got ep (now (buf .entry)) count size c f (log (now (w .entry)) (now (list .entry)) n) ⌝ }
 {
     if ep == 0 {
-        return read_zero::read_zero(w, list, n, c, f, count, size, buf);
+        return read_zero(w, list, n, c, f, count, size, buf);
     }
     read_other(w, list, n, c, f)
 }
@@ -90,7 +308,7 @@ fn take(
     let count = fetch(b, w, ep, buf, fifo);
     let s = serve(w, list, n, ep, c, f, count, size, buf);
     Took {
-        answer: Got::Done(count),
+        answer: ReadAnswer::Done(count),
         served: s,
     }
 }
@@ -109,15 +327,15 @@ fn read_by(
 ) -> Took
     ensures { λ o. ⌜ tookOf o (now (w .exit)) (now (list .exit)) (now (buf .exit)) ≡ readIn b (now (w .entry)) c f size ep (now (buf .entry)) (now (fifo .entry)) (now (list .entry)) ⌝ }
 {
-    let v = read_tests::refusal(b, w, c, f, ep, buf.len(), fifo.len(), list.len());
+    let v = refusal(b, w, c, f, ep, buf.len(), fifo.len(), list.len());
     match v {
         Verdict::Clear => take(b, w, list, ep, c, f, size, buf, fifo),
         Verdict::Blocked => Took {
-            answer: Got::Refused(Refusal::WouldBlock),
+            answer: ReadAnswer::Refused(Refusal::WouldBlock),
             served: peek::block(w, list, ep, c, f),
         },
         Verdict::Refused(x) => Took {
-            answer: Got::Refused(x),
+            answer: ReadAnswer::Refused(x),
             served: Served {
                 n: 0,
                 control_state: c,
@@ -127,7 +345,7 @@ fn read_by(
     }
 }
 
-pub fn read(k: Record, ep: u8, buf: &mut [u8], fifo: &[u8], list: &mut [u16]) -> Fetched
+pub fn read(k: Record, ep: u8, buf: &mut [u8], fifo: &[u8], list: &mut [u16]) -> ReadCalled
     ensures { λ o. ⌜ record { result = o; list = now (list .exit); buf = now (buf .exit) } ≡ readCall k ep (now (buf .entry)) (now (fifo .entry)) (now (list .entry)) ⌝ }
 {
     let r = k.regs;
@@ -151,7 +369,7 @@ pub fn read(k: Record, ep: u8, buf: &mut [u8], fifo: &[u8], list: &mut [u16]) ->
     let a = o.answer;
     let c = s.control_state;
     let f = s.irq;
-    Fetched {
+    ReadCalled {
         answer: a,
         record: Record {
             regs: Regs { board: b, words: w },

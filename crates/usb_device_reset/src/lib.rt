@@ -1,20 +1,20 @@
 // The call `reset` of the source's usb_device_impl/mod.rs: every endpoint that is used is enabled again.
 use board::Board;
+use call_rules::Called;
+use call_rules::Ran;
 use control_state::ControlState;
 use endpoints::EndpointData;
 use record::Admission;
 use record::Flags;
 use record::Record;
-use usb_device_impl::Called;
-use usb_device_impl::Ran;
 ghost use mathlib.Core.Path.{_≡_};
 ghost use Prim.Native.Nat.{_+_, _*_, _≤_, _<_};
 ghost use lib.ListN.{length};
 ghost use Rattle.store_rules.specs.Stores.{log};
 ghost use Rattle.record.specs.Record.{listNeed};
 ghost use mathlib.Core.Bool.{false};
-ghost use Rattle.usb_device_impl.specs.Calls.{left};
-ghost use Rattle.usb_device_reset.specs.Calls.{txEnabled, rxEnabled, usedEnabled, enabledBelow, resetIn, resetRan, resetCall};
+ghost use Rattle.call_rules.specs.Calls.{left};
+ghost use Rattle.call_rules.specs.Reset.{txEnabled, rxEnabled, usedEnabled, enabledBelow, resetIn, resetRan, resetCall};
 
 fn enable_tx(w: &mut [u16; 46], list: &mut [u16], n: usize, index: u8, ep: EndpointData) -> usize
     requires { ⌜ (index < 16) × (n * 3 + 21 ≤ length (now list)) ⌝ }
@@ -71,7 +71,7 @@ fn reset_stores(b: Board, w: &mut [u16; 46], list: &mut [u16], e: [EndpointData;
     ensures { λ m. ⌜ log (now (w .exit)) (now (list .exit)) m ≡ resetIn b e (log (now (w .entry)) (now (list .entry)) 0) ⌝ }
 {
     let n = stores::write_power(w, list, 0);
-    enable_below(w, list, n, e, record::endpoints(b))
+    enable_below(w, list, n, e, record_ops::endpoints(b))
 }
 
 fn run_reset(

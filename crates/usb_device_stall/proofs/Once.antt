@@ -4,8 +4,8 @@ use contract.Lifetimes.{Lfts}
 use borrow.Fn.Kinds.{Dens, resT, endedOf}
 use denote.Triple.Clauses.{AtExit}
 use denote.Ref.{now}
-use Rattle.usb_device_impl.specs.Calls.{Outcome}
-use Rattle.usb_device_stall.specs.Calls.{ToldOutcome}
+use Rattle.call_rules.specs.Calls.{Outcome}
+use Rattle.call_rules.specs.Stall.{ToldOutcome}
 use Rattle.usb_device_stall.proofs.set_stalled.Kinds as set-stalled-kinds
 use Rattle.usb_device_stall.proofs.set_stalled.Reads as set-stalled-reads
 use Rattle.usb_device_stall.proofs.is_stalled.Kinds as is-stalled-kinds

@@ -1,34 +1,24 @@
 // The calls `set_stalled` and `is_stalled` of the source's usb_device_impl/mod.rs.
 use board::Board;
 use board::Direction;
-use common_impl::Stalled;
+use call_rules::Asked;
+use call_rules::Called;
+use call_rules::Ran;
+use call_rules::StalledAnswer;
+use call_rules::StalledCalled;
+use common_rules::Stalled;
 use control_state::ControlState;
 use record::Admission;
 use record::Flags;
 use record::Record;
-use record::Refusal;
 use register_file::Regs;
-use usb_device_impl::Called;
-use usb_device_impl::Ran;
 ghost use mathlib.Core.Path.{_≡_};
 ghost use Prim.Native.Nat.{_+_, _*_, _≤_};
 ghost use lib.ListN.{length};
 ghost use Rattle.store_rules.specs.Stores.{log, writeIndex};
-ghost use Rattle.common_impl.specs.Common.{isStalled};
-ghost use Rattle.usb_device_impl.specs.Calls.{left};
-ghost use Rattle.usb_device_stall.specs.Calls.{epStall, afterStall, setStalledRan, setStalledCall, toldLeft, isStalledRan, isStalledCall};
-
-// The answer of `is_stalled`.
-pub enum Told {
-    Done(bool),
-    Refused(Refusal),
-}
-
-pub struct IsStalled {
-    pub answer: Told,
-    pub record: Record,
-    pub stores: usize,
-}
+ghost use Rattle.common_rules.specs.Common.{isStalled};
+ghost use Rattle.call_rules.specs.Calls.{left};
+ghost use Rattle.call_rules.specs.Stall.{epStall, afterStall, setStalledRan, setStalledCall, toldLeft, isStalledRan, isStalledCall};
 
 fn ep_stall(
     w: &mut [u16; 46],
@@ -113,12 +103,6 @@ fn ep_is_stalled(
     }
 }
 
-// What `is_stalled` leaves besides the registers.
-struct Asked {
-    answer: Told,
-    n: usize,
-}
-
 fn run_is_stalled(
     b: Board,
     w: &mut [u16; 46],
@@ -132,20 +116,20 @@ fn run_is_stalled(
     let t = usb_device_impl::admit_at(list.len(), b, w, f, ep);
     match t {
         Admission::Refused(x) => Asked {
-            answer: Told::Refused(x),
+            answer: StalledAnswer::Refused(x),
             n: 0,
         },
         Admission::Clear => {
             let o = ep_is_stalled(w, list, 0, ep, direction);
             Asked {
-                answer: Told::Done(o.stalled),
+                answer: StalledAnswer::Done(o.stalled),
                 n: o.n,
             }
         }
     }
 }
 
-pub fn is_stalled(k: Record, ep: u8, direction: Direction, list: &mut [u16]) -> IsStalled
+pub fn is_stalled(k: Record, ep: u8, direction: Direction, list: &mut [u16]) -> StalledCalled
     ensures { λ a. ⌜ record { call = a; list = now (list .exit) } ≡ isStalledCall k ep direction (now (list .entry)) ⌝ }
 {
     let r = k.regs;
@@ -156,7 +140,7 @@ pub fn is_stalled(k: Record, ep: u8, direction: Direction, list: &mut [u16]) -> 
     let f = k.irq;
     let o = run_is_stalled(b, &mut w, list, f, ep, direction);
     let a = o.answer;
-    IsStalled {
+    StalledCalled {
         answer: a,
         record: Record {
             regs: Regs { board: b, words: w },

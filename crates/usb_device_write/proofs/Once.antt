@@ -6,7 +6,7 @@ use contract.Lifetimes.{Lfts}
 use borrow.Fn.Kinds.{Dens, resT, endedOf}
 use denote.Ref.{now}
 use denote.Triple.Clauses.{AtExit}
-use Rattle.usb_device_write.specs.Write.{WriteOutcome}
+use Rattle.transfer_rules.specs.Write.{WriteOutcome}
 use Rattle.usb_device_write.proofs.write.Kinds as kinds
 use Rattle.usb_device_write.proofs.write.Reads as reads
 

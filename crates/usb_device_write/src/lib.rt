@@ -1,31 +1,213 @@
 // The call `write` of the source's usb_device_impl: a packet into an endpoint's transmit area.
-// Refusals are tested first, in document 01's order; after them the steps are the source's, in its order.
+// What is refused is tested before anything changes, in document 01's order (the source selects the endpoint first, and panics where it
+// can't go on); after that the steps are the source's, in its order: endpoint 0's by the control state, then those of the others.
 use board::Board;
 use board::Direction;
 use control_state::ControlState;
+use control_state::ControlStateEnum;
+use csr::Csr0lSet;
 use csr::TxcsrlSet;
-use peek::Served;
-use peek::Verdict;
+use endpoints::EndpointData;
+use record::Admission;
 use record::Flags;
 use record::Record;
 use record::Refusal;
 use register_file::Regs;
-use write_zero::Written;
-use write_zero::Wrote;
+use transfer_rules::Sent;
+use transfer_rules::Served;
+use transfer_rules::Verdict;
+use transfer_rules::WriteAnswer;
+use transfer_rules::WriteCalled;
 ghost use mathlib.Core.Path.{_≡_};
-ghost use Prim.Native.Nat.{_+_, _*_, _≤_, _<_};
+ghost use Prim.Native.Nat.{_<_, _+_, _*_, _≤_};
+ghost use Rattle.transfer_rules.specs.WriteTests.{tooLong, untakenIn, notWritable, ownTestsAt, testsIn};
 ghost use lib.ListN.{length};
+ghost use Rattle.laws.specs.Words.{raised};
+ghost use Rattle.store_rules.specs.Stores.{log};
+ghost use Rattle.transfer_rules.specs.Peek.{afterOf};
+ghost use Rattle.transfer_rules.specs.WriteZero.{withEpTx, txSizeIn, dataIn, sentDataIn, sentZero};
 ghost use Rattle.board.specs.declared.Direction.the-variants.{In};
 ghost use Rattle.laws.specs.Lists.{pasted};
 ghost use Rattle.record.specs.Record.{areaIn, needIn};
-ghost use Rattle.store_rules.specs.Stores.{log};
-ghost use Rattle.peek.specs.Peek.{afterOf};
-ghost use Rattle.usb_device_write.specs.Write.{ran, loaded, sentOther, sent, writeIn, writeCall};
+ghost use Rattle.transfer_rules.specs.Write.{ran, loaded, sentOther, sent, writeIn, writeCall};
 
-// The answer, and what the steps hand on.
-struct Sent {
-    answer: Wrote,
-    served: Served,
+fn too_long(b: Board, ep: u8, len: usize) -> bool
+    ensures { λ t. ⌜ t ≡ tooLong b ep len ⌝ }
+{
+    let a = record_ops::area(b, ep, Direction::In);
+    a.size < len
+}
+
+// The source panics in these states.
+fn untaken_in(s: ControlStateEnum, len: usize) -> bool
+    ensures { λ t. ⌜ t ≡ untakenIn s len ⌝ }
+{
+    match s {
+        ControlStateEnum::Idle => !(len == 0),
+        ControlStateEnum::Setup => true,
+        ControlStateEnum::DataIn => false,
+        ControlStateEnum::DataOut => true,
+        ControlStateEnum::Accepted => true,
+        ControlStateEnum::NodataPhase => !(len == 0),
+    }
+}
+
+fn not_writable(c: ControlState, ep: u8, len: usize) -> bool
+    ensures { λ t. ⌜ t ≡ notWritable c ep len ⌝ }
+{
+    let s = c.state;
+    (ep == 0) & untaken_in(s, len)
+}
+
+// Write's own tests, each in its turn: 6, 9, 11.
+fn own_tests_at(b: Board, w: &[u16; 46], c: ControlState, ep: u8, len: usize) -> Verdict
+    ensures { λ v. ⌜ v ≡ ownTestsAt b (now (w .entry)) c ep len ⌝ }
+{
+    if peek::tx_pkt_rdy(w, ep) {
+        return Verdict::Blocked;
+    }
+    if too_long(b, ep, len) {
+        return Verdict::Refused(Refusal::TooLong);
+    }
+    if not_writable(c, ep, len) {
+        return Verdict::Refused(Refusal::NotWritable);
+    }
+    Verdict::Clear
+}
+
+// Every test, before anything changes: 15, 16, 8, then 6, 9, 11.
+pub fn refusal(
+    b: Board,
+    w: &[u16; 46],
+    c: ControlState,
+    f: Flags,
+    ep: u8,
+    len: usize,
+    fifo: usize,
+    list: usize,
+) -> Verdict
+    ensures { λ v. ⌜ v ≡ testsIn b (now (w .entry)) c f ep len fifo list ⌝ }
+{
+    let a = record_ops::admit(
+        peek::is_short(b, fifo, list),
+        b,
+        w,
+        f,
+        record_ops::endpoints(b) <= ep,
+    );
+    match a {
+        Admission::Clear => own_tests_at(b, w, c, ep, len),
+        Admission::Refused(x) => Verdict::Refused(x),
+    }
+}
+
+// Endpoint 0's recorded transmit size.
+pub fn tx_size(es: [EndpointData; 6]) -> usize
+    ensures { λ n. ⌜ n ≡ txSizeIn es ⌝ }
+{
+    let e = es[0];
+    let conf = e.ep_conf;
+    conf.tx_max_packet_size as usize
+}
+
+// Transmit flag 0.
+fn raise_ep_tx(f: Flags) -> Flags
+    ensures { λ o. ⌜ o ≡ withEpTx f (raised (f .«ep_tx») 0) ⌝ }
+{
+    let w = laws::raise(f.ep_tx, 0);
+    let mut o = f;
+    o.ep_tx = w;
+    o
+}
+
+// The packet is ready: was it the last?
+fn data_in(
+    w: &mut [u16; 46],
+    list: &mut [u16],
+    m: usize,
+    c: ControlState,
+    f: Flags,
+    len: usize,
+    size: usize,
+) -> Served
+    requires { ⌜ (len < 65536) × (m * 3 + 3 ≤ length (now list)) ⌝ }
+    ensures { λ o. ⌜ afterOf o (now (w .exit)) (now (list .exit)) ≡ dataIn len size c f (log (now (w .entry)) (now (list .entry)) m) ⌝ }
+{
+    let left = c.decrease_tx_len(len as u32);
+    let idle = left.set_state(ControlStateEnum::Idle);
+    if left.tx_len == 0 {
+        return peek::end(w, list, m, idle, f);
+    }
+    if len < size {
+        return peek::end(w, list, m, idle.reset_tx_len(), f);
+    }
+    Served {
+        n: m,
+        control_state: left,
+        irq: f,
+    }
+}
+
+fn send_data_in(
+    w: &mut [u16; 46],
+    list: &mut [u16],
+    n: usize,
+    c: ControlState,
+    f: Flags,
+    len: usize,
+    size: usize,
+) -> Served
+    requires { ⌜ (len < 65536) × (n * 3 + 6 ≤ length (now list)) ⌝ }
+    ensures { λ o. ⌜ afterOf o (now (w .exit)) (now (list .exit)) ≡ sentDataIn len size c f (log (now (w .entry)) (now (list .entry)) n) ⌝ }
+{
+    let m = stores::modify_csr0l(w, list, n, Csr0lSet::TxPktRdy);
+    data_in(w, list, m, c, f, len, size)
+}
+
+// Endpoint 0, by its state. Of the last three none comes here: they are refused before.
+pub fn send_zero(
+    w: &mut [u16; 46],
+    list: &mut [u16],
+    n: usize,
+    c: ControlState,
+    f: Flags,
+    len: usize,
+    size: usize,
+) -> Served
+    requires { ⌜ (len < 65536) × (n * 3 + 6 ≤ length (now list)) ⌝ }
+    ensures { λ o. ⌜ afterOf o (now (w .exit)) (now (list .exit)) ≡ sentZero (c .state) len size c f (log (now (w .entry)) (now (list .entry)) n) ⌝ }
+{
+    let s = c.state;
+    match s {
+        // An empty packet ends a transfer that has no data; usb-device is told of it as of a packet that was collected.
+        ControlStateEnum::NodataPhase => Served {
+            n: n,
+            control_state: c.set_state(ControlStateEnum::Idle),
+            irq: raise_ep_tx(f),
+        },
+        ControlStateEnum::DataIn => send_data_in(w, list, n, c, f, len, size),
+        // An empty packet after received data.
+        ControlStateEnum::Idle => Served {
+            n: n,
+            control_state: c.set_state(ControlStateEnum::Accepted),
+            irq: f,
+        },
+        ControlStateEnum::Setup => Served {
+            n: n,
+            control_state: c,
+            irq: f,
+        },
+        ControlStateEnum::DataOut => Served {
+            n: n,
+            control_state: c,
+            irq: f,
+        },
+        ControlStateEnum::Accepted => Served {
+            n: n,
+            control_state: c,
+            irq: f,
+        },
+    }
 }
 
 // The endpoint is selected, and the packet's bytes go into its area.
@@ -41,7 +223,7 @@ fn load(
     ensures { λ m. ⌜ (log (now (w .exit)) (now (list .exit)) m ≡ loaded ep (length (now (bytes .entry))) (log (now (w .entry)) (now (list .entry)) 0)) × (now (fifo .exit) ≡ pasted (now (fifo .entry)) (areaIn b ep In .start) (now (bytes .entry))) × (m ≤ 2) × (length (now (bytes .entry)) < 65536) ⌝ }
 {
     let n = stores::write_index(w, list, 0, ep);
-    let area = record::area(b, ep, Direction::In);
+    let area = record_ops::area(b, ep, Direction::In);
     fifo::put_bytes(fifo, area, bytes);
     stores::write_packet(w, list, n, bytes.len() as u16)
 }
@@ -75,7 +257,7 @@ fn send(
 {
     let n = load(b, w, list, ep, bytes, fifo);
     if ep == 0 {
-        return write_zero::send_zero(w, list, n, c, f, bytes.len(), size);
+        return send_zero(w, list, n, c, f, bytes.len(), size);
     }
     send_other(w, list, n, c, f)
 }
@@ -94,18 +276,18 @@ fn write_by(
 ) -> Sent
     ensures { λ o. ⌜ ran (o .answer) (now (fifo .exit)) (afterOf (o .served) (now (w .exit)) (now (list .exit))) ≡ writeIn b (now (w .entry)) c f size ep (now (bytes .entry)) (now (fifo .entry)) (now (list .entry)) ⌝ }
 {
-    let v = write_tests::refusal(b, w, c, f, ep, bytes.len(), fifo.len(), list.len());
+    let v = refusal(b, w, c, f, ep, bytes.len(), fifo.len(), list.len());
     match v {
         Verdict::Clear => Sent {
-            answer: Wrote::Done(bytes.len()),
+            answer: WriteAnswer::Done(bytes.len()),
             served: send(b, w, list, c, f, size, ep, bytes, fifo),
         },
         Verdict::Blocked => Sent {
-            answer: Wrote::Refused(Refusal::WouldBlock),
+            answer: WriteAnswer::Refused(Refusal::WouldBlock),
             served: peek::block(w, list, ep, c, f),
         },
         Verdict::Refused(x) => Sent {
-            answer: Wrote::Refused(x),
+            answer: WriteAnswer::Refused(x),
             served: Served {
                 n: 0,
                 control_state: c,
@@ -115,14 +297,14 @@ fn write_by(
     }
 }
 
-pub fn write(k: Record, ep: u8, bytes: &[u8], fifo: &mut [u8], list: &mut [u16]) -> Written
+pub fn write(k: Record, ep: u8, bytes: &[u8], fifo: &mut [u8], list: &mut [u16]) -> WriteCalled
     ensures { λ o. ⌜ record { result = o; fifo = now (fifo .exit); list = now (list .exit) } ≡ writeCall k ep (now (bytes .entry)) (now (fifo .entry)) (now (list .entry)) ⌝ }
 {
     let r = k.regs;
     let e = k.endpoints;
     let b = r.board;
     let mut w = r.words;
-    let size = write_zero::tx_size(e);
+    let size = tx_size(e);
     let o = write_by(
         b,
         &mut w,
@@ -138,7 +320,7 @@ pub fn write(k: Record, ep: u8, bytes: &[u8], fifo: &mut [u8], list: &mut [u16])
     let s = o.served;
     let c = s.control_state;
     let f = s.irq;
-    Written {
+    WriteCalled {
         answer: a,
         record: Record {
             regs: Regs { board: b, words: w },

@@ -6,9 +6,9 @@ use native.Mathlib.Omega.{arith}
 use borrow.Author.Needs.{needs}
 use Rattle.board.specs.Boards.{rows, at-most-six}
 use Rattle.endpoints.specs.Endpoints.{ask}
-use Rattle.alloc_endpoint.specs.Allocate.{firstFrom, answerTo}
+use Rattle.endpoints.specs.Allocate.{firstFrom, answerTo}
 use Rattle.endpoints.specs.declared.Wanted.the-variants.{Any}
-use Rattle.alloc_endpoint.proofs.Laws.{at-end, stops, goes-on}
+use Rattle.endpoints.proofs.Allocate.{at-end, stops, goes-on}
 use Rattle.alloc_endpoint.proofs.alloc_any.Statement.{statement}
 use Rattle.alloc_endpoint.proofs.alloc_any.Tie as tie
 

@@ -1,7 +1,7 @@
 -- `alloc_endpoint::alloc_endpoint` meets its contract: an endpoint that is given lies in the table, so in the array.
 -- Assumes nothing.
-use Rattle.alloc_endpoint.proofs.Answers.{in-array}
-use Rattle.alloc_endpoint.proofs.Laws.{granting, refusing}
+use Rattle.endpoints.proofs.Answers.{in-array}
+use Rattle.endpoints.proofs.Allocate.{granting, refusing}
 use borrow.Author.Needs.{needs}
 use Rattle.alloc_endpoint.proofs.alloc_endpoint.Statement.{statement}
 use Rattle.alloc_endpoint.proofs.alloc_endpoint.Tie as tie

@@ -2,7 +2,7 @@
 -- Assumes nothing.
 use native.Mathlib.Omega.{arith}
 use Rattle.board.specs.Boards.{at-most-six}
-use Rattle.alloc_endpoint.proofs.Laws.{beyond-table, unchecked, as-passes, as-fails}
+use Rattle.endpoints.proofs.Allocate.{beyond-table, unchecked, as-passes, as-fails}
 use borrow.Author.Needs.{needs}
 use Rattle.alloc_endpoint.proofs.alloc_wanted.Statement.{statement}
 use Rattle.alloc_endpoint.proofs.alloc_wanted.Tie as tie

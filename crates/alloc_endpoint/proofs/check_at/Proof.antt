@@ -1,6 +1,6 @@
 -- `alloc_endpoint::check_at` meets its contract.
 -- Assumes nothing.
-use Rattle.alloc_endpoint.specs.Allocate.{checkAt}
+use Rattle.endpoints.specs.Allocate.{checkAt}
 use borrow.Author.Needs.{needs}
 use Rattle.alloc_endpoint.proofs.check_at.Statement.{statement}
 use Rattle.alloc_endpoint.proofs.check_at.Tie as tie

@@ -1,6 +1,6 @@
 -- `alloc_endpoint::give` meets its contract.
 -- Assumes nothing.
-use Rattle.endpoints.specs.Allocate.{given}
+use Rattle.endpoints.specs.Check.{given}
 use borrow.Author.Needs.{needs}
 use Rattle.alloc_endpoint.proofs.give.Statement.{statement}
 use Rattle.alloc_endpoint.proofs.give.Tie as tie

@@ -1,5 +1,5 @@
 -- `common_impl::bus_init` meets its contract. Assumes nothing.
-use Rattle.common_impl.proofs.Laws.{initialised}
+use Rattle.common_rules.proofs.Common.{initialised}
 use borrow.Author.Needs.{needs}
 use Rattle.common_impl.proofs.bus_init.Statement.{statement}
 use Rattle.common_impl.proofs.bus_init.Tie as tie

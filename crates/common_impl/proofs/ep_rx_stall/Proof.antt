@@ -1,5 +1,5 @@
 -- `common_impl::ep_rx_stall` meets its contract. Assumes nothing.
-use Rattle.common_impl.specs.Common.{epRxStall}
+use Rattle.common_rules.specs.Common.{epRxStall}
 use borrow.Author.Needs.{needs}
 use Rattle.common_impl.proofs.ep_rx_stall.Statement.{statement}
 use Rattle.common_impl.proofs.ep_rx_stall.Tie as tie

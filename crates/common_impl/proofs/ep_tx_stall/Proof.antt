@@ -1,5 +1,5 @@
 -- `common_impl::ep_tx_stall` meets its contract. Assumes nothing.
-use Rattle.common_impl.specs.Common.{epTxStall}
+use Rattle.common_rules.specs.Common.{epTxStall}
 use borrow.Author.Needs.{needs}
 use Rattle.common_impl.proofs.ep_tx_stall.Statement.{statement}
 use Rattle.common_impl.proofs.ep_tx_stall.Tie as tie

@@ -1,5 +1,5 @@
 -- `common_impl::is_stalled` meets its contract. Assumes nothing.
-use Rattle.common_impl.proofs.Laws.{stalled-zero, stalled-other}
+use Rattle.common_rules.proofs.Common.{stalled-zero, stalled-other}
 use borrow.Author.Needs.{needs}
 use Rattle.common_impl.proofs.is_stalled.Statement.{statement}
 use Rattle.common_impl.proofs.is_stalled.Tie as tie

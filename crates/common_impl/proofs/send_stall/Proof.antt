@@ -1,5 +1,5 @@
 -- `common_impl::send_stall` meets its contract. Assumes nothing.
-use Rattle.common_impl.specs.Common.{sendStall}
+use Rattle.common_rules.specs.Common.{sendStall}
 use borrow.Author.Needs.{needs}
 use Rattle.common_impl.proofs.send_stall.Statement.{statement}
 use Rattle.common_impl.proofs.send_stall.Tie as tie

@@ -1,5 +1,5 @@
 -- `common_impl::stall` meets its contract. Assumes nothing.
-use Rattle.common_impl.proofs.Laws.{selected-zero, selected-other}
+use Rattle.common_rules.proofs.Common.{selected-zero, selected-other}
 use borrow.Author.Needs.{needs}
 use Rattle.common_impl.proofs.stall.Statement.{statement}
 use Rattle.common_impl.proofs.stall.Tie as tie

@@ -1,5 +1,5 @@
 -- `common_impl::stall_csr0l` meets its contract. Assumes nothing.
-use Rattle.common_impl.specs.Common.{stallCsr0l}
+use Rattle.common_rules.specs.Common.{stallCsr0l}
 use borrow.Author.Needs.{needs}
 use Rattle.common_impl.proofs.stall_csr0l.Statement.{statement}
 use Rattle.common_impl.proofs.stall_csr0l.Tie as tie

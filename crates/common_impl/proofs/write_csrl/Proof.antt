@@ -1,5 +1,5 @@
 -- `common_impl::write_csrl` meets its contract. Assumes nothing.
-use Rattle.common_impl.specs.Common.{writeCsrl}
+use Rattle.common_rules.specs.Common.{writeCsrl}
 use borrow.Author.Needs.{needs}
 use Rattle.common_impl.proofs.write_csrl.Statement.{statement}
 use Rattle.common_impl.proofs.write_csrl.Tie as tie

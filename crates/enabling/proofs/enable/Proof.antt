@@ -1,6 +1,6 @@
 -- `enabling::enable` meets its contract. Assumes nothing.
-use Rattle.enabling.specs.Common.{enabled}
-use Rattle.common_impl.proofs.Laws.{selected-zero, selected-other}
+use Rattle.common_rules.specs.Enable.{enabled}
+use Rattle.common_rules.proofs.Common.{selected-zero, selected-other}
 use borrow.Author.Needs.{needs}
 use Rattle.enabling.proofs.enable.Statement.{statement}
 use Rattle.enabling.proofs.enable.Tie as tie

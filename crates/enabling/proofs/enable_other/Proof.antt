@@ -1,5 +1,5 @@
 -- `enabling::enable_other` meets its contract. Assumes nothing.
-use Rattle.enabling.proofs.Laws.{enabled-other}
+use Rattle.common_rules.proofs.Enable.{enabled-other}
 use borrow.Author.Needs.{needs}
 use Rattle.enabling.proofs.enable_other.Statement.{statement}
 use Rattle.enabling.proofs.enable_other.Tie as tie

@@ -1,5 +1,5 @@
 -- `enabling::enable_zero` meets its contract. Assumes nothing.
-use Rattle.enabling.proofs.Laws.{enabled-zero}
+use Rattle.common_rules.proofs.Enable.{enabled-zero}
 use borrow.Author.Needs.{needs}
 use Rattle.enabling.proofs.enable_zero.Statement.{statement}
 use Rattle.enabling.proofs.enable_zero.Tie as tie

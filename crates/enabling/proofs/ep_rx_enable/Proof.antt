@@ -1,5 +1,5 @@
 -- `enabling::ep_rx_enable` meets its contract. Assumes nothing.
-use Rattle.enabling.specs.Common.{epRxEnable}
+use Rattle.common_rules.specs.Enable.{epRxEnable}
 use borrow.Author.Needs.{needs}
 use Rattle.enabling.proofs.ep_rx_enable.Statement.{statement}
 use Rattle.enabling.proofs.ep_rx_enable.Tie as tie

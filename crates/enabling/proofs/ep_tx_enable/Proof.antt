@@ -1,5 +1,5 @@
 -- `enabling::ep_tx_enable` meets its contract. Assumes nothing.
-use Rattle.enabling.specs.Common.{epTxEnable}
+use Rattle.common_rules.specs.Enable.{epTxEnable}
 use borrow.Author.Needs.{needs}
 use Rattle.enabling.proofs.ep_tx_enable.Statement.{statement}
 use Rattle.enabling.proofs.ep_tx_enable.Tie as tie

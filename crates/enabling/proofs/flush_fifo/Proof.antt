@@ -1,5 +1,5 @@
 -- `enabling::flush_fifo` meets its contract. Assumes nothing.
-use Rattle.enabling.specs.Common.{flush}
+use Rattle.common_rules.specs.Enable.{flush}
 use borrow.Author.Needs.{needs}
 use Rattle.enabling.proofs.flush_fifo.Statement.{statement}
 use Rattle.enabling.proofs.flush_fifo.Tie as tie

@@ -1,5 +1,5 @@
 -- `enabling::flush_if_waiting` meets its contract. Assumes nothing.
-use Rattle.enabling.proofs.Laws.{flushed-twice, flushed-never}
+use Rattle.common_rules.proofs.Enable.{flushed-twice, flushed-never}
 use borrow.Author.Needs.{needs}
 use Rattle.enabling.proofs.flush_if_waiting.Statement.{statement}
 use Rattle.enabling.proofs.flush_if_waiting.Tie as tie

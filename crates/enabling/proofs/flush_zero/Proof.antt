@@ -1,5 +1,5 @@
 -- `enabling::flush_zero` meets its contract. Assumes nothing.
-use Rattle.enabling.specs.Common.{flushedZero}
+use Rattle.common_rules.specs.Enable.{flushedZero}
 use borrow.Author.Needs.{needs}
 use Rattle.enabling.proofs.flush_zero.Statement.{statement}
 use Rattle.enabling.proofs.flush_zero.Tie as tie

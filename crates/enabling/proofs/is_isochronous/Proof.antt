@@ -1,5 +1,5 @@
 -- `enabling::is_isochronous` meets its contract. Assumes nothing.
-use Rattle.enabling.specs.Common.{isochronous}
+use Rattle.common_rules.specs.Enable.{isochronous}
 use borrow.Author.Needs.{needs}
 use Rattle.enabling.proofs.is_isochronous.Statement.{statement}
 use Rattle.enabling.proofs.is_isochronous.Tie as tie

@@ -1,5 +1,5 @@
 -- `enabling::packet_waits` meets its contract. Assumes nothing.
-use Rattle.enabling.specs.Common.{waits}
+use Rattle.common_rules.specs.Enable.{waits}
 use borrow.Author.Needs.{needs}
 use Rattle.enabling.proofs.packet_waits.Statement.{statement}
 use Rattle.enabling.proofs.packet_waits.Tie as tie

@@ -1,5 +1,5 @@
 -- `enabling::set_up` meets its contract. Assumes nothing.
-use Rattle.enabling.proofs.Laws.{settled-one}
+use Rattle.common_rules.proofs.Enable.{settled-one}
 use borrow.Author.Needs.{needs}
 use Rattle.enabling.proofs.set_up.Statement.{statement}
 use Rattle.enabling.proofs.set_up.Tie as tie

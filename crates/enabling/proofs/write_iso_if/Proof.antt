@@ -1,6 +1,6 @@
 -- `enabling::write_iso_if` meets its contract. Assumes nothing.
 use mathlib.Core.Path.{refl}
-use Rattle.enabling.specs.Common.{isoWritten}
+use Rattle.common_rules.specs.Enable.{isoWritten}
 use Rattle.laws.proofs.Tests.{when-true, when-false}
 use borrow.Author.Needs.{needs}
 use Rattle.enabling.proofs.write_iso_if.Statement.{statement}

@@ -1,5 +1,5 @@
 -- `enabling::write_size` meets its contract. Assumes nothing.
-use Rattle.enabling.specs.Common.{sized}
+use Rattle.common_rules.specs.Enable.{sized}
 use borrow.Author.Needs.{needs}
 use Rattle.enabling.proofs.write_size.Statement.{statement}
 use Rattle.enabling.proofs.write_size.Tie as tie

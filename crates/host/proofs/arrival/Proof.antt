@@ -1,5 +1,5 @@
 -- `host::arrival` meets its contract. Assumes nothing.
-use Rattle.host.proofs.Laws.{arriving}
+use Rattle.host_rules.proofs.Host.{arriving}
 use borrow.Author.Needs.{needs}
 use Rattle.host.proofs.arrival.Statement.{statement}
 use Rattle.host.proofs.arrival.Tie as tie

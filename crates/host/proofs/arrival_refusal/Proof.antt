@@ -1,5 +1,5 @@
 -- `host::arrival_refusal` meets its contract. Assumes nothing.
-use Rattle.host.proofs.Laws.{arrival-first, arrival-long, arrival-early, arrival-clear}
+use Rattle.host_rules.proofs.Host.{arrival-first, arrival-long, arrival-early, arrival-clear}
 use borrow.Author.Needs.{needs}
 use Rattle.host.proofs.arrival_refusal.Statement.{statement}
 use Rattle.host.proofs.arrival_refusal.Tie as tie

@@ -1,5 +1,5 @@
 -- `host::arrive_if` meets its contract. Assumes nothing.
-use Rattle.host.proofs.Laws.{arriving-fits, refusing, leaving, doing, changing, pasting}
+use Rattle.host_rules.proofs.Host.{arriving-fits, refusing, leaving, doing, changing, pasting}
 use borrow.Author.Needs.{needs}
 use Rattle.host.proofs.arrive_if.Statement.{statement}
 use Rattle.host.proofs.arrive_if.Tie as tie

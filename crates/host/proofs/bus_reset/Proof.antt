@@ -1,6 +1,6 @@
 -- `host::bus_reset` meets its contract. Assumes nothing.
 use Rattle.event_rules.specs.Events.{busReset}
-use Rattle.host.specs.Host.{busResetCall}
+use Rattle.host_rules.specs.Host.{busResetCall}
 use borrow.Author.Needs.{needs}
 use Rattle.host.proofs.bus_reset.Statement.{statement}
 use Rattle.host.proofs.bus_reset.Tie as tie

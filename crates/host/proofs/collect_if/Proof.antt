@@ -1,5 +1,5 @@
 -- `host::collect_if` meets its contract. Assumes nothing.
-use Rattle.host.proofs.Laws.{collecting-below, not-taking, taking, leaving, changing}
+use Rattle.host_rules.proofs.Host.{collecting-below, not-taking, taking, leaving, changing}
 use borrow.Author.Needs.{needs}
 use Rattle.host.proofs.collect_if.Statement.{statement}
 use Rattle.host.proofs.collect_if.Tie as tie

@@ -1,5 +1,5 @@
 -- `host::collection` meets its contract. Assumes nothing.
-use Rattle.host.proofs.Laws.{collecting, placed}
+use Rattle.host_rules.proofs.Host.{collecting, placed}
 use borrow.Author.Needs.{needs}
 use Rattle.host.proofs.collection.Statement.{statement}
 use Rattle.host.proofs.collection.Tie as tie

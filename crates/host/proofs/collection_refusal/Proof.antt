@@ -1,5 +1,5 @@
 -- `host::collection_refusal` meets its contract. Assumes nothing.
-use Rattle.host.proofs.Laws.{collection-first, collection-clear, collection-none}
+use Rattle.host_rules.proofs.Host.{collection-first, collection-clear, collection-none}
 use borrow.Author.Needs.{needs}
 use Rattle.host.proofs.collection_refusal.Statement.{statement}
 use Rattle.host.proofs.collection_refusal.Tie as tie

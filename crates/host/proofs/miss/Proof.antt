@@ -1,6 +1,6 @@
 -- `host::miss` meets its contract. Assumes nothing.
-use Rattle.host.specs.Host.{missCall}
-use Rattle.host.proofs.Laws.{together}
+use Rattle.host_rules.specs.Host.{missCall}
+use Rattle.host_rules.proofs.Host.{together}
 use borrow.Author.Needs.{needs}
 use Rattle.host.proofs.miss.Statement.{statement}
 use Rattle.host.proofs.miss.Tie as tie

@@ -1,5 +1,5 @@
 -- `host::miss_if` meets its contract. Assumes nothing.
-use Rattle.host.proofs.Laws.{refusing, leaving, doing, changing}
+use Rattle.host_rules.proofs.Host.{refusing, leaving, doing, changing}
 use borrow.Author.Needs.{needs}
 use Rattle.host.proofs.miss_if.Statement.{statement}
 use Rattle.host.proofs.miss_if.Tie as tie

@@ -1,6 +1,6 @@
 -- `host::on_signal` meets its contract. Assumes nothing.
 use Rattle.record.specs.Record.{recordSound}
-use Rattle.host.proofs.Laws.{together}
+use Rattle.host_rules.proofs.Host.{together}
 use borrow.Author.Needs.{needs}
 use Rattle.host.proofs.on_signal.Statement.{statement}
 use Rattle.host.proofs.on_signal.Tie as tie

@@ -1,5 +1,5 @@
 -- `host::overrun` meets its contract. Assumes nothing.
-use Rattle.host.specs.Host.{overrunCall}
+use Rattle.host_rules.specs.Host.{overrunCall}
 use borrow.Author.Needs.{needs}
 use Rattle.host.proofs.overrun.Statement.{statement}
 use Rattle.host.proofs.overrun.Tie as tie

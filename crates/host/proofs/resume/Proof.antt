@@ -1,6 +1,6 @@
 -- `host::resume` meets its contract. Assumes nothing.
 use Rattle.event_rules.specs.Events.{busResume}
-use Rattle.host.specs.Host.{resumeCall}
+use Rattle.host_rules.specs.Host.{resumeCall}
 use borrow.Author.Needs.{needs}
 use Rattle.host.proofs.resume.Statement.{statement}
 use Rattle.host.proofs.resume.Tie as tie

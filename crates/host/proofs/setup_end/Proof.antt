@@ -1,5 +1,5 @@
 -- `host::setup_end` meets its contract. Assumes nothing.
-use Rattle.host.specs.Host.{setupEndCall}
+use Rattle.host_rules.specs.Host.{setupEndCall}
 use borrow.Author.Needs.{needs}
 use Rattle.host.proofs.setup_end.Statement.{statement}
 use Rattle.host.proofs.setup_end.Tie as tie

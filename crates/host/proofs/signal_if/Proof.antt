@@ -1,5 +1,5 @@
 -- `host::signal_if` meets its contract. Assumes nothing.
-use Rattle.host.proofs.Laws.{refusing, leaving, doing, changing}
+use Rattle.host_rules.proofs.Host.{refusing, leaving, doing, changing}
 use borrow.Author.Needs.{needs}
 use Rattle.host.proofs.signal_if.Statement.{statement}
 use Rattle.host.proofs.signal_if.Tie as tie

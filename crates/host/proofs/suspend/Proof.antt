@@ -1,6 +1,6 @@
 -- `host::suspend` meets its contract. Assumes nothing.
 use Rattle.event_rules.specs.Events.{busSuspend}
-use Rattle.host.specs.Host.{suspendCall}
+use Rattle.host_rules.specs.Host.{suspendCall}
 use borrow.Author.Needs.{needs}
 use Rattle.host.proofs.suspend.Statement.{statement}
 use Rattle.host.proofs.suspend.Tie as tie

@@ -1,5 +1,5 @@
 -- `host::underrun` meets its contract. Assumes nothing.
-use Rattle.host.specs.Host.{underrunCall}
+use Rattle.host_rules.specs.Host.{underrunCall}
 use borrow.Author.Needs.{needs}
 use Rattle.host.proofs.underrun.Statement.{statement}
 use Rattle.host.proofs.underrun.Tie as tie

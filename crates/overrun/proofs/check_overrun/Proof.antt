@@ -1,5 +1,5 @@
 -- `overrun::check_overrun` meets its contract. Assumes nothing.
-use Rattle.overrun.proofs.Missed.{none-missed, something-missed}
+use Rattle.common_rules.proofs.Missed.{none-missed, something-missed}
 use borrow.Author.Needs.{needs}
 use Rattle.overrun.proofs.check_overrun.Statement.{statement}
 use Rattle.overrun.proofs.check_overrun.Tie as tie

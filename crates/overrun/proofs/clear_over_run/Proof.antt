@@ -1,5 +1,5 @@
 -- `overrun::clear_over_run` meets its contract. Assumes nothing.
-use Rattle.overrun.proofs.Laws.{over-run, no-over-run}
+use Rattle.common_rules.proofs.Overrun.{over-run, no-over-run}
 use borrow.Author.Needs.{needs}
 use Rattle.overrun.proofs.clear_over_run.Statement.{statement}
 use Rattle.overrun.proofs.clear_over_run.Tie as tie

@@ -1,5 +1,5 @@
 -- `overrun::clear_under_run` meets its contract. Assumes nothing.
-use Rattle.overrun.proofs.Laws.{under-run, no-under-run}
+use Rattle.common_rules.proofs.Overrun.{under-run, no-under-run}
 use borrow.Author.Needs.{needs}
 use Rattle.overrun.proofs.clear_under_run.Statement.{statement}
 use Rattle.overrun.proofs.clear_under_run.Tie as tie

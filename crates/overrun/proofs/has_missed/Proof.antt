@@ -1,5 +1,5 @@
 -- `overrun::has_missed` meets its contract. Assumes nothing.
-use Rattle.overrun.specs.Common.{missedAt}
+use Rattle.common_rules.specs.Overrun.{missedAt}
 use borrow.Author.Needs.{needs}
 use Rattle.overrun.proofs.has_missed.Statement.{statement}
 use Rattle.overrun.proofs.has_missed.Tie as tie

@@ -1,5 +1,5 @@
 -- `overrun::repair` meets its contract. Assumes nothing.
-use Rattle.overrun.specs.Common.{overRunCleared}
+use Rattle.common_rules.specs.Overrun.{overRunCleared}
 use mathlib.Core.Path.{ap, _∙_}
 use borrow.Author.Needs.{needs}
 use Rattle.overrun.proofs.repair.Statement.{statement}

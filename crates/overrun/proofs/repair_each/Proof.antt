@@ -1,11 +1,11 @@
 -- `overrun::repair_each` meets its contract. Assumes nothing.
-use Rattle.overrun.specs.Common.{underRunCleared, overRunCleared, repaired, repairedBelow}
+use Rattle.common_rules.specs.Overrun.{underRunCleared, overRunCleared, repaired, repairedBelow}
 use Rattle.store_rules.specs.Stores.{Log, log}
 use mathlib.Core.Path.{ap, _∙_}
 use Prim.Native.Nat.{_-_}
 use native.Mathlib.Omega.{arith}
 use borrow.Author.Needs.{needs}
-use Rattle.overrun.proofs.Walk.{Walking, begin, turn, done}
+use Rattle.common_rules.proofs.Walk.{Walking, begin, turn, done}
 use Rattle.overrun.proofs.repair_each.Statement.{statement}
 use Rattle.overrun.proofs.repair_each.Tie as tie
 

@@ -1,10 +1,10 @@
 -- `overrun::select_each` meets its contract. Assumes nothing.
-use Rattle.overrun.specs.Common.{selectedOnly, selectedBelow}
+use Rattle.common_rules.specs.Overrun.{selectedOnly, selectedBelow}
 use Prim.Native.Nat.{_-_}
 use native.Mathlib.Omega.{arith}
 use borrow.Author.Needs.{needs}
 use Rattle.store_rules.specs.Stores.{log}
-use Rattle.overrun.proofs.Walk.{Walking, begin, turn, done}
+use Rattle.common_rules.proofs.Walk.{Walking, begin, turn, done}
 use Rattle.overrun.proofs.select_each.Statement.{statement}
 use Rattle.overrun.proofs.select_each.Tie as tie
 

@@ -4,8 +4,8 @@ use mathlib.Core.Path.{_≡_, sym, ap, _∙_}
 use native.Mathlib.Omega.{arith}
 use borrow.Author.Needs.{needs}
 use denote.Ref.{now}
-use Rattle.overrun.specs.Common.{missedTo}
-use Rattle.overrun.proofs.Missed.{missed-none, missed-next}
+use Rattle.common_rules.specs.Overrun.{missedTo}
+use Rattle.common_rules.proofs.Missed.{missed-none, missed-next}
 use Rattle.overrun.proofs.some_missed.Statement.{statement}
 use Rattle.overrun.proofs.some_missed.Tie as tie
 

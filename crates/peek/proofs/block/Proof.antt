@@ -1,6 +1,6 @@
 use denote.Ref.{now}
 use Rattle.store_rules.specs.Stores.{log}
-use Rattle.peek.proofs.Endings.{block-done}
+use Rattle.transfer_rules.proofs.Endings.{block-done}
 use borrow.Author.Needs.{needs}
 use Rattle.peek.proofs.block.Statement.{statement}
 use Rattle.peek.proofs.block.Tie as tie

@@ -1,6 +1,6 @@
 use denote.Ref.{now}
 use Rattle.store_rules.specs.Stores.{log}
-use Rattle.peek.proofs.Endings.{end-done}
+use Rattle.transfer_rules.proofs.Endings.{end-done}
 use borrow.Author.Needs.{needs}
 use Rattle.peek.proofs.end.Statement.{statement}
 use Rattle.peek.proofs.end.Tie as tie

@@ -1,4 +1,4 @@
-use Rattle.peek.specs.Peek.{shortIn}
+use Rattle.transfer_rules.specs.Peek.{shortIn}
 use borrow.Author.Needs.{needs}
 use Rattle.peek.proofs.is_short.Statement.{statement}
 use Rattle.peek.proofs.is_short.Tie as tie

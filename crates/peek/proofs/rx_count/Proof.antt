@@ -1,4 +1,4 @@
-use Rattle.peek.specs.Peek.{rxCount}
+use Rattle.transfer_rules.specs.Peek.{rxCount}
 use borrow.Author.Needs.{needs}
 use Rattle.peek.proofs.rx_count.Statement.{statement}
 use Rattle.peek.proofs.rx_count.Tie as tie

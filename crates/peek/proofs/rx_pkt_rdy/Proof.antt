@@ -1,4 +1,4 @@
-use Rattle.peek.specs.Peek.{rxPktRdy}
+use Rattle.transfer_rules.specs.Peek.{rxPktRdy}
 use borrow.Author.Needs.{needs}
 use Rattle.peek.proofs.rx_pkt_rdy.Statement.{statement}
 use Rattle.peek.proofs.rx_pkt_rdy.Tie as tie

@@ -1,4 +1,4 @@
-use Rattle.peek.specs.Peek.{txPktRdy}
+use Rattle.transfer_rules.specs.Peek.{txPktRdy}
 use borrow.Author.Needs.{needs}
 use Rattle.peek.proofs.tx_pkt_rdy.Statement.{statement}
 use Rattle.peek.proofs.tx_pkt_rdy.Tie as tie

@@ -1,5 +1,5 @@
 -- `poll_walk::drain` meets its contract. Assumes nothing.
-use Rattle.poll_walk.proofs.Laws.{drain-empty}
+use Rattle.round_rules.proofs.Walk.{drain-empty}
 use borrow.Author.Needs.{needs}
 use Rattle.poll_walk.proofs.drain.Statement.{statement}
 use Rattle.poll_walk.proofs.drain.Tie as tie

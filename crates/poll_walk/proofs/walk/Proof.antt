@@ -2,9 +2,9 @@
 use native.Mathlib.Omega.{arith}
 use borrow.Author.Needs.{needs}
 use Rattle.store_rules.specs.Stores.{log}
-use Rattle.poll_walk.specs.Round.{walk, walked}
-use Rattle.poll_walk.proofs.Laws.{drained-selected, visited}
-use Rattle.poll_walk.proofs.Turns.{Walking, begin, turn, fits, done}
+use Rattle.round_rules.specs.Walk.{walk, walked}
+use Rattle.round_rules.proofs.Walk.{drained-selected, visited}
+use Rattle.round_rules.proofs.Turns.{Walking, begin, turn, fits, done}
 use Rattle.poll_walk.proofs.walk.Statement.{statement}
 use Rattle.poll_walk.proofs.walk.Tie as tie
 

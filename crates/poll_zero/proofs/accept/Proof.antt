@@ -1,7 +1,7 @@
 -- `poll_zero::accept` meets its contract. Assumes nothing.
 use mathlib.Core.Path.{sym, _∙_}
-use Rattle.poll_zero.proofs.Laws.{not-accepted}
-use Rattle.poll_zero.specs.Round.{acceptedBy, acceptStep}
+use Rattle.round_rules.proofs.Zero.{not-accepted}
+use Rattle.round_rules.specs.Zero.{acceptedBy, acceptStep}
 use borrow.Author.Needs.{needs}
 use Rattle.poll_zero.proofs.accept.Statement.{statement}
 use Rattle.poll_zero.proofs.accept.Tie as tie

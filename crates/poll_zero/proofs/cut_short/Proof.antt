@@ -1,5 +1,5 @@
 -- `poll_zero::cut_short` meets its contract. Assumes nothing.
-use Rattle.poll_zero.proofs.Laws.{cut-ended, cut-not}
+use Rattle.round_rules.proofs.Zero.{cut-ended, cut-not}
 use borrow.Author.Needs.{needs}
 use Rattle.poll_zero.proofs.cut_short.Statement.{statement}
 use Rattle.poll_zero.proofs.cut_short.Tie as tie

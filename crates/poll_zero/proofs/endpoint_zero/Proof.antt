@@ -1,5 +1,5 @@
 -- `poll_zero::endpoint_zero` meets its contract. Assumes nothing.
-use Rattle.poll_zero.proofs.Laws.{zero-up, zero-down}
+use Rattle.round_rules.proofs.Zero.{zero-up, zero-down}
 use borrow.Author.Needs.{needs}
 use Rattle.poll_zero.proofs.endpoint_zero.Statement.{statement}
 use Rattle.poll_zero.proofs.endpoint_zero.Tie as tie

@@ -1,6 +1,6 @@
 -- `poll_zero::put_back` meets its contract. Assumes nothing.
 use mathlib.Core.Path.{sym, _∙_}
-use Rattle.poll_zero.specs.Round.{putBack}
+use Rattle.round_rules.specs.Zero.{putBack}
 use borrow.Author.Needs.{needs}
 use Rattle.poll_zero.proofs.put_back.Statement.{statement}
 use Rattle.poll_zero.proofs.put_back.Tie as tie

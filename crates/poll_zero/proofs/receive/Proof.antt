@@ -1,6 +1,6 @@
 -- `poll_zero::receive` meets its contract. Assumes nothing.
-use Rattle.poll_zero.proofs.Laws.{received-other}
-use Rattle.poll_zero.specs.Round.{receivedBy}
+use Rattle.round_rules.proofs.Zero.{received-other}
+use Rattle.round_rules.specs.Zero.{receivedBy}
 use Rattle.laws.proofs.Words.{raised-lt6}
 use borrow.Author.Needs.{needs}
 use Rattle.poll_zero.proofs.receive.Statement.{statement}

@@ -1,5 +1,5 @@
 -- `poll_zero::restart` meets its contract. Assumes nothing.
-use Rattle.poll_zero.proofs.Laws.{restart-eight, restart-other}
+use Rattle.round_rules.proofs.Zero.{restart-eight, restart-other}
 use borrow.Author.Needs.{needs}
 use Rattle.poll_zero.proofs.restart.Statement.{statement}
 use Rattle.poll_zero.proofs.restart.Tie as tie

@@ -1,6 +1,6 @@
 -- `poll_zero::sent` meets its contract. Assumes nothing.
-use Rattle.poll_zero.specs.Round.{sentBy}
-use Rattle.poll_zero.proofs.Laws.{sent-other}
+use Rattle.round_rules.specs.Zero.{sentBy}
+use Rattle.round_rules.proofs.Zero.{sent-other}
 use borrow.Author.Needs.{needs}
 use Rattle.poll_zero.proofs.sent.Statement.{statement}
 use Rattle.poll_zero.proofs.sent.Tie as tie

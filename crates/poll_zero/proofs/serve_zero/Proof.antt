@@ -1,5 +1,5 @@
 -- `poll_zero::serve_zero` meets its contract. Assumes nothing.
-use Rattle.poll_zero.proofs.Laws.{zero-received, zero-sending, zero-sent}
+use Rattle.round_rules.proofs.Zero.{zero-received, zero-sending, zero-sent}
 use borrow.Author.Needs.{needs}
 use Rattle.poll_zero.proofs.serve_zero.Statement.{statement}
 use Rattle.poll_zero.proofs.serve_zero.Tie as tie

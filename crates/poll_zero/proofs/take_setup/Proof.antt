@@ -1,5 +1,5 @@
 -- `poll_zero::take_setup` meets its contract. Assumes nothing.
-use Rattle.poll_zero.proofs.Laws.{setup-eight, setup-other}
+use Rattle.round_rules.proofs.Zero.{setup-eight, setup-other}
 use borrow.Author.Needs.{needs}
 use Rattle.poll_zero.proofs.take_setup.Statement.{statement}
 use Rattle.poll_zero.proofs.take_setup.Tie as tie

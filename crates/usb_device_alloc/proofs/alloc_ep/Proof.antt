@@ -1,5 +1,5 @@
 -- `usb_device_alloc::alloc_ep` meets its contract. Assumes nothing.
-use Rattle.usb_device_alloc.proofs.Laws.{allocating}
+use Rattle.call_rules.proofs.Alloc.{allocating}
 use borrow.Author.Needs.{needs}
 use Rattle.usb_device_alloc.proofs.alloc_ep.Statement.{statement}
 use Rattle.usb_device_alloc.proofs.alloc_ep.Tie as tie

@@ -1,5 +1,5 @@
 -- `usb_device_alloc::allocate` meets its contract. Assumes nothing.
-use Rattle.usb_device_alloc.specs.Calls.{assignedIf}
+use Rattle.call_rules.specs.Alloc.{assignedIf}
 use borrow.Author.Needs.{needs}
 use Rattle.usb_device_alloc.proofs.allocate.Statement.{statement}
 use Rattle.usb_device_alloc.proofs.allocate.Tie as tie

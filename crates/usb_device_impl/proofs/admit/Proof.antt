@@ -1,7 +1,7 @@
 -- `usb_device_impl::admit` meets its contract. Assumes nothing.
 use denote.Ref.{now}
 use Rattle.record.specs.Record.{passes}
-use Rattle.usb_device_impl.proofs.Laws.{room}
+use Rattle.call_rules.proofs.Calls.{room}
 use borrow.Author.Needs.{needs}
 use Rattle.usb_device_impl.proofs.admit.Statement.{statement}
 use Rattle.usb_device_impl.proofs.admit.Tie as tie

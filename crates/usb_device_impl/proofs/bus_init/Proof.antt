@@ -1,5 +1,5 @@
 -- `usb_device_impl::bus_init` meets its contract. Assumes nothing.
-use Rattle.usb_device_impl.proofs.Laws.{bus-initialised}
+use Rattle.call_rules.proofs.Calls.{bus-initialised}
 use borrow.Author.Needs.{needs}
 use Rattle.usb_device_impl.proofs.bus_init.Statement.{statement}
 use Rattle.usb_device_impl.proofs.bus_init.Tie as tie

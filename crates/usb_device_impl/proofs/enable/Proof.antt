@@ -1,5 +1,5 @@
 -- `usb_device_impl::enable` meets its contract. Assumes nothing.
-use Rattle.usb_device_impl.proofs.Laws.{enabled}
+use Rattle.call_rules.proofs.Calls.{enabled}
 use borrow.Author.Needs.{needs}
 use Rattle.usb_device_impl.proofs.enable.Statement.{statement}
 use Rattle.usb_device_impl.proofs.enable.Tie as tie

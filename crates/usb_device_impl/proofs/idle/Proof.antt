@@ -2,7 +2,7 @@
 use mathlib.Core.Path.{ap, _∙_}
 use Rattle.control_state.specs.Control.{withTxLen}
 use Rattle.control_state.specs.declared.ControlState.{ControlState}
-use Rattle.usb_device_impl.specs.Calls.{idled}
+use Rattle.call_rules.specs.Calls.{idled}
 use borrow.Author.Needs.{needs}
 use Rattle.usb_device_impl.proofs.idle.Statement.{statement}
 use Rattle.usb_device_impl.proofs.idle.Tie as tie

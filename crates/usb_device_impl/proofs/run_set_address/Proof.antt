@@ -1,6 +1,6 @@
 -- `usb_device_impl::run_set_address` meets its contract. Assumes nothing.
-use Rattle.usb_device_impl.specs.Calls.{addressRan}
-use Rattle.usb_device_impl.proofs.Laws.{refusing, doing}
+use Rattle.call_rules.specs.Calls.{addressRan}
+use Rattle.call_rules.proofs.Calls.{refusing, doing}
 use native.Mathlib.Omega.{arith}
 use borrow.Author.Needs.{needs}
 use Rattle.usb_device_impl.proofs.run_set_address.Statement.{statement}

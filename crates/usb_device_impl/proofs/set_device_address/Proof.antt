@@ -1,5 +1,5 @@
 -- `usb_device_impl::set_device_address` meets its contract. Assumes nothing.
-use Rattle.usb_device_impl.proofs.Laws.{addressed}
+use Rattle.call_rules.proofs.Calls.{addressed}
 use borrow.Author.Needs.{needs}
 use Rattle.usb_device_impl.proofs.set_device_address.Statement.{statement}
 use Rattle.usb_device_impl.proofs.set_device_address.Tie as tie

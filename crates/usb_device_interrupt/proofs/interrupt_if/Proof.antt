@@ -1,5 +1,5 @@
 -- `usb_device_interrupt::interrupt_if` meets its contract. Assumes nothing.
-use Rattle.usb_device_interrupt.proofs.Laws.{served-flags, served-file}
+use Rattle.call_rules.proofs.Interrupt.{served-flags, served-file}
 use borrow.Author.Needs.{needs}
 use Rattle.usb_device_interrupt.proofs.interrupt_if.Statement.{statement}
 use Rattle.usb_device_interrupt.proofs.interrupt_if.Tie as tie

@@ -1,5 +1,5 @@
 -- `usb_device_interrupt::on_interrupt` meets its contract. Assumes nothing.
-use Rattle.usb_device_interrupt.proofs.Laws.{answered}
+use Rattle.call_rules.proofs.Interrupt.{answered}
 use borrow.Author.Needs.{needs}
 use Rattle.usb_device_interrupt.proofs.on_interrupt.Statement.{statement}
 use Rattle.usb_device_interrupt.proofs.on_interrupt.Tie as tie

@@ -1,6 +1,6 @@
 -- `usb_device_interrupt::raise_if` meets its contract. Assumes nothing.
 use mathlib.Core.Path.{sym, _∙_}
-use Rattle.usb_device_interrupt.specs.Interrupt.{raisedIf}
+use Rattle.call_rules.specs.Interrupt.{raisedIf}
 use borrow.Author.Needs.{needs}
 use Rattle.usb_device_interrupt.proofs.raise_if.Statement.{statement}
 use Rattle.usb_device_interrupt.proofs.raise_if.Tie as tie

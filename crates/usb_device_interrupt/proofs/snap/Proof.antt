@@ -1,5 +1,5 @@
 -- `usb_device_interrupt::snap` meets its contract. Assumes nothing.
-use Rattle.usb_device_interrupt.specs.Interrupt.{snapshotOf, cleared}
+use Rattle.call_rules.specs.Interrupt.{snapshotOf, cleared}
 use borrow.Author.Needs.{needs}
 use Rattle.usb_device_interrupt.proofs.snap.Statement.{statement}
 use Rattle.usb_device_interrupt.proofs.snap.Tie as tie

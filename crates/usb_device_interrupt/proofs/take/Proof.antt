@@ -3,8 +3,8 @@ use Prim.Native.Nat.{_-_}
 use mathlib.Core.Path.{ap, _∙_}
 use native.Mathlib.Omega.{arith}
 use borrow.Author.Needs.{needs}
-use Rattle.usb_device_interrupt.specs.Interrupt.{endpointsTaken, taken}
-use Rattle.usb_device_interrupt.proofs.Laws.{Taking, begin, turn, done}
+use Rattle.call_rules.specs.Interrupt.{endpointsTaken, taken}
+use Rattle.call_rules.proofs.Interrupt.{Taking, begin, turn, done}
 use Rattle.usb_device_interrupt.proofs.take.Statement.{statement}
 use Rattle.usb_device_interrupt.proofs.take.Tie as tie
 

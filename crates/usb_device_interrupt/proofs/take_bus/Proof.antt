@@ -1,5 +1,5 @@
 -- `usb_device_interrupt::take_bus` meets its contract. Assumes nothing.
-use Rattle.usb_device_interrupt.specs.Interrupt.{busTaken}
+use Rattle.call_rules.specs.Interrupt.{busTaken}
 use borrow.Author.Needs.{needs}
 use Rattle.usb_device_interrupt.proofs.take_bus.Statement.{statement}
 use Rattle.usb_device_interrupt.proofs.take_bus.Tie as tie

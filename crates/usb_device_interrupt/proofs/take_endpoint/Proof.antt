@@ -1,5 +1,5 @@
 -- `usb_device_interrupt::take_endpoint` meets its contract. Assumes nothing.
-use Rattle.usb_device_interrupt.specs.Interrupt.{endpointTaken}
+use Rattle.call_rules.specs.Interrupt.{endpointTaken}
 use borrow.Author.Needs.{needs}
 use Rattle.usb_device_interrupt.proofs.take_endpoint.Statement.{statement}
 use Rattle.usb_device_interrupt.proofs.take_endpoint.Tie as tie

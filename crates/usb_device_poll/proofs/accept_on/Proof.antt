@@ -1,5 +1,5 @@
 -- `usb_device_poll::accept_on` meets its contract. Assumes nothing.
-use Rattle.usb_device_poll.proofs.Laws.{accepted-on}
+use Rattle.round_rules.proofs.Poll.{accepted-on}
 use borrow.Author.Needs.{needs}
 use Rattle.usb_device_poll.proofs.accept_on.Statement.{statement}
 use Rattle.usb_device_poll.proofs.accept_on.Tie as tie

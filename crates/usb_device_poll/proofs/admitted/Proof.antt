@@ -1,6 +1,6 @@
 -- `usb_device_poll::admitted` meets its contract. Assumes nothing.
 use denote.Ref.{now}
-use Rattle.usb_device_poll.proofs.Laws.{admitted, poll-refused, poll-served}
+use Rattle.round_rules.proofs.Poll.{admitted, poll-refused, poll-served}
 use borrow.Author.Needs.{needs}
 use Rattle.usb_device_poll.proofs.admitted.Statement.{statement}
 use Rattle.usb_device_poll.proofs.admitted.Tie as tie

@@ -1,5 +1,5 @@
 -- `usb_device_poll::by_flags` meets its contract. Assumes nothing.
-use Rattle.usb_device_poll.proofs.Laws.{resets, resumes, suspends, goes-round}
+use Rattle.round_rules.proofs.Poll.{resets, resumes, suspends, goes-round}
 use borrow.Author.Needs.{needs}
 use Rattle.usb_device_poll.proofs.by_flags.Statement.{statement}
 use Rattle.usb_device_poll.proofs.by_flags.Tie as tie

@@ -1,5 +1,5 @@
 -- `usb_device_poll::poll` meets its contract. Assumes nothing.
-use Rattle.usb_device_poll.proofs.Laws.{put-together}
+use Rattle.round_rules.proofs.Poll.{put-together}
 use denote.Ref.{now}
 use borrow.Author.Needs.{needs}
 use Rattle.usb_device_poll.proofs.poll.Statement.{statement}

@@ -1,5 +1,5 @@
 -- `usb_device_poll::round` meets its contract. Assumes nothing.
-use Rattle.usb_device_poll.specs.Poll.{acceptedOn, roundOut}
+use Rattle.round_rules.specs.Poll.{acceptedOn, roundOut}
 use mathlib.Core.Path.{ap, _∙_}
 use borrow.Author.Needs.{needs}
 use Rattle.usb_device_poll.proofs.round.Statement.{statement}

@@ -1,6 +1,6 @@
 -- `usb_device_poll::serve` meets its contract. Assumes nothing.
-use Rattle.usb_device_poll.specs.Poll.{pollLogged, pollServed}
-use Rattle.overrun.specs.Common.{checkOverrun}
+use Rattle.round_rules.specs.Poll.{pollLogged, pollServed}
+use Rattle.common_rules.specs.Overrun.{checkOverrun}
 use Rattle.store_rules.specs.Stores.{Log, log}
 use Prim.Native.Nat.{ℕ}
 use mathlib.Core.Path.{ap, _∙_}

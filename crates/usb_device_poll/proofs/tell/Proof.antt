@@ -1,6 +1,6 @@
 -- `usb_device_poll::tell` meets its contract. Assumes nothing.
-use Rattle.usb_device_poll.specs.Round.{told}
-use Rattle.usb_device_poll.proofs.Laws.{told-data}
+use Rattle.round_rules.specs.Round.{told}
+use Rattle.round_rules.proofs.Poll.{told-data}
 use borrow.Author.Needs.{needs}
 use Rattle.usb_device_poll.proofs.tell.Statement.{statement}
 use Rattle.usb_device_poll.proofs.tell.Tie as tie

@@ -1,5 +1,5 @@
 -- `usb_device_poll::walk_on` meets its contract. Assumes nothing.
-use Rattle.usb_device_poll.proofs.Laws.{walked-on}
+use Rattle.round_rules.proofs.Poll.{walked-on}
 use borrow.Author.Needs.{needs}
 use Rattle.usb_device_poll.proofs.walk_on.Statement.{statement}
 use Rattle.usb_device_poll.proofs.walk_on.Tie as tie

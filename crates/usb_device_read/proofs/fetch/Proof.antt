@@ -1,6 +1,6 @@
 -- `usb_device_read::fetch` meets its contract. Assumes nothing.
 use denote.Ref.{now}
-use Rattle.usb_device_read.proofs.Laws.{area-fits, copied-by}
+use Rattle.transfer_rules.proofs.Read.{area-fits, copied-by}
 use borrow.Author.Needs.{needs}
 use Rattle.usb_device_read.proofs.fetch.Statement.{statement}
 use Rattle.usb_device_read.proofs.fetch.Tie as tie

@@ -1,6 +1,6 @@
 -- `usb_device_read::read` meets its contract. Assumes nothing.
-use Rattle.usb_device_read.specs.Read.{outcome, readCall}
-use Rattle.read_zero.specs.Read.{rxSize}
+use Rattle.transfer_rules.specs.Read.{outcome, readCall}
+use Rattle.transfer_rules.specs.ReadZero.{rxSize}
 use mathlib.Core.Path.{ap}
 use borrow.Author.Needs.{needs}
 use Rattle.usb_device_read.proofs.read.Statement.{statement}

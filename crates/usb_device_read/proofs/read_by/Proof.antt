@@ -2,8 +2,8 @@
 use native.Mathlib.Omega.{arith}
 use lib.ListN.{length}
 use denote.Ref.{now}
-use Rattle.usb_device_read.proofs.Verdicts.{clear-fits, blocked-fits}
-use Rattle.usb_device_read.proofs.Laws.{call-clear, call-blocked, call-refused}
+use Rattle.transfer_rules.proofs.ReadVerdicts.{clear-fits, blocked-fits}
+use Rattle.transfer_rules.proofs.Read.{call-clear, call-blocked, call-refused}
 use borrow.Author.Needs.{needs}
 use Rattle.usb_device_read.proofs.read_by.Statement.{statement}
 use Rattle.usb_device_read.proofs.read_by.Tie as tie

@@ -1,7 +1,7 @@
 -- `usb_device_read::read_other` meets its contract. Assumes nothing.
 use Rattle.store_rules.specs.Stores.{log}
 use denote.Ref.{now}
-use Rattle.usb_device_read.proofs.Laws.{other-by}
+use Rattle.transfer_rules.proofs.Read.{other-by}
 use borrow.Author.Needs.{needs}
 use Rattle.usb_device_read.proofs.read_other.Statement.{statement}
 use Rattle.usb_device_read.proofs.read_other.Tie as tie

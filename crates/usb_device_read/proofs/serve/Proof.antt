@@ -1,7 +1,7 @@
 -- `usb_device_read::serve` meets its contract. Assumes nothing.
 use Rattle.store_rules.specs.Stores.{log}
 use denote.Ref.{now}
-use Rattle.usb_device_read.proofs.Laws.{zero-got, other-got}
+use Rattle.transfer_rules.proofs.Read.{zero-got, other-got}
 use borrow.Author.Needs.{needs}
 use Rattle.usb_device_read.proofs.serve.Statement.{statement}
 use Rattle.usb_device_read.proofs.serve.Tie as tie

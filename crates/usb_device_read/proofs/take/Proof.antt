@@ -1,7 +1,7 @@
 -- `usb_device_read::take` meets its contract. Assumes nothing.
 use Rattle.store_rules.specs.Stores.{log}
 use denote.Ref.{now}
-use Rattle.usb_device_read.proofs.Laws.{packet-there, taken-by}
+use Rattle.transfer_rules.proofs.Read.{packet-there, taken-by}
 use borrow.Author.Needs.{needs}
 use Rattle.usb_device_read.proofs.take.Statement.{statement}
 use Rattle.usb_device_read.proofs.take.Tie as tie

@@ -1,7 +1,7 @@
 -- `usb_device_reset::enable_below` meets its contract. Assumes nothing.
 use Prim.Native.Nat.{_-_}
 use Rattle.store_rules.specs.Stores.{log}
-use Rattle.usb_device_reset.proofs.Walk.{Walking, begin, turn, end}
+use Rattle.call_rules.proofs.ResetWalk.{Walking, begin, turn, end}
 use native.Mathlib.Omega.{arith}
 use borrow.Author.Needs.{needs}
 use Rattle.usb_device_reset.proofs.enable_below.Statement.{statement}

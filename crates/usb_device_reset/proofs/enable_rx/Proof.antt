@@ -1,5 +1,5 @@
 -- `usb_device_reset::enable_rx` meets its contract. Assumes nothing.
-use Rattle.usb_device_reset.proofs.Laws.{rx-used, rx-unused}
+use Rattle.call_rules.proofs.Reset.{rx-used, rx-unused}
 use borrow.Author.Needs.{needs}
 use Rattle.usb_device_reset.proofs.enable_rx.Statement.{statement}
 use Rattle.usb_device_reset.proofs.enable_rx.Tie as tie

@@ -1,5 +1,5 @@
 -- `usb_device_reset::enable_tx` meets its contract. Assumes nothing.
-use Rattle.usb_device_reset.proofs.Laws.{tx-used, tx-unused}
+use Rattle.call_rules.proofs.Reset.{tx-used, tx-unused}
 use borrow.Author.Needs.{needs}
 use Rattle.usb_device_reset.proofs.enable_tx.Statement.{statement}
 use Rattle.usb_device_reset.proofs.enable_tx.Tie as tie

@@ -1,5 +1,5 @@
 -- `usb_device_reset::enable_used` meets its contract. Assumes nothing.
-use Rattle.usb_device_reset.proofs.Laws.{both}
+use Rattle.call_rules.proofs.Reset.{both}
 use borrow.Author.Needs.{needs}
 use Rattle.usb_device_reset.proofs.enable_used.Statement.{statement}
 use Rattle.usb_device_reset.proofs.enable_used.Tie as tie

@@ -1,5 +1,5 @@
 -- `usb_device_reset::reset` meets its contract. Assumes nothing.
-use Rattle.usb_device_reset.proofs.Laws.{reset-whole}
+use Rattle.call_rules.proofs.Reset.{reset-whole}
 use borrow.Author.Needs.{needs}
 use Rattle.usb_device_reset.proofs.reset.Statement.{statement}
 use Rattle.usb_device_reset.proofs.reset.Tie as tie

@@ -1,5 +1,5 @@
 -- `usb_device_reset::reset_stores` meets its contract. Assumes nothing.
-use Rattle.usb_device_reset.proofs.Laws.{reset-all}
+use Rattle.call_rules.proofs.Reset.{reset-all}
 use borrow.Author.Needs.{needs}
 use Rattle.usb_device_reset.proofs.reset_stores.Statement.{statement}
 use Rattle.usb_device_reset.proofs.reset_stores.Tie as tie

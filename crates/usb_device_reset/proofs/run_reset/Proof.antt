@@ -1,6 +1,6 @@
 -- `usb_device_reset::run_reset` meets its contract. Assumes nothing.
-use Rattle.usb_device_reset.specs.Calls.{resetRan}
-use Rattle.usb_device_impl.proofs.Laws.{refusing, doing-after}
+use Rattle.call_rules.specs.Reset.{resetRan}
+use Rattle.call_rules.proofs.Calls.{refusing, doing-after}
 use borrow.Author.Needs.{needs}
 use Rattle.usb_device_reset.proofs.run_reset.Statement.{statement}
 use Rattle.usb_device_reset.proofs.run_reset.Tie as tie

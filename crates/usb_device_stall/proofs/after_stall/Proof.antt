@@ -1,5 +1,5 @@
 -- `usb_device_stall::after_stall` meets its contract. Assumes nothing.
-use Rattle.usb_device_stall.specs.Calls.{afterStall}
+use Rattle.call_rules.specs.Stall.{afterStall}
 use borrow.Author.Needs.{needs}
 use Rattle.usb_device_stall.proofs.after_stall.Statement.{statement}
 use Rattle.usb_device_stall.proofs.after_stall.Tie as tie

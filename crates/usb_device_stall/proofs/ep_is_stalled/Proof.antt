@@ -1,5 +1,5 @@
 -- `usb_device_stall::ep_is_stalled` meets its contract. Assumes nothing.
-use Rattle.usb_device_stall.proofs.Laws.{told-at}
+use Rattle.call_rules.proofs.Stall.{told-at}
 use borrow.Author.Needs.{needs}
 use Rattle.usb_device_stall.proofs.ep_is_stalled.Statement.{statement}
 use Rattle.usb_device_stall.proofs.ep_is_stalled.Tie as tie

@@ -1,5 +1,5 @@
 -- `usb_device_stall::ep_stall` meets its contract. Assumes nothing.
-use Rattle.usb_device_stall.proofs.Laws.{stalled-in, stalled-out}
+use Rattle.call_rules.proofs.Stall.{stalled-in, stalled-out}
 use borrow.Author.Needs.{needs}
 use Rattle.usb_device_stall.proofs.ep_stall.Statement.{statement}
 use Rattle.usb_device_stall.proofs.ep_stall.Tie as tie

@@ -1,5 +1,5 @@
 -- `usb_device_stall::is_stalled` meets its contract. Assumes nothing.
-use Rattle.usb_device_stall.proofs.Laws.{asked-whole}
+use Rattle.call_rules.proofs.Stall.{asked-whole}
 use borrow.Author.Needs.{needs}
 use Rattle.usb_device_stall.proofs.is_stalled.Statement.{statement}
 use Rattle.usb_device_stall.proofs.is_stalled.Tie as tie

@@ -1,6 +1,6 @@
 -- `usb_device_stall::run_is_stalled` meets its contract. Assumes nothing.
-use Rattle.usb_device_stall.specs.Calls.{isStalledRan}
-use Rattle.usb_device_stall.proofs.Laws.{not-telling, telling}
+use Rattle.call_rules.specs.Stall.{isStalledRan}
+use Rattle.call_rules.proofs.Stall.{not-telling, telling}
 use native.Mathlib.Omega.{arith}
 use borrow.Author.Needs.{needs}
 use Rattle.usb_device_stall.proofs.run_is_stalled.Statement.{statement}

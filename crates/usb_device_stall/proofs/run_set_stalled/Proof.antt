@@ -1,6 +1,6 @@
 -- `usb_device_stall::run_set_stalled` meets its contract. Assumes nothing.
-use Rattle.usb_device_stall.specs.Calls.{setStalledRan}
-use Rattle.usb_device_impl.proofs.Laws.{refusing, doing-after}
+use Rattle.call_rules.specs.Stall.{setStalledRan}
+use Rattle.call_rules.proofs.Calls.{refusing, doing-after}
 use native.Mathlib.Omega.{arith}
 use borrow.Author.Needs.{needs}
 use Rattle.usb_device_stall.proofs.run_set_stalled.Statement.{statement}

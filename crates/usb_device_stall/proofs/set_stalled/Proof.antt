@@ -1,5 +1,5 @@
 -- `usb_device_stall::set_stalled` meets its contract. Assumes nothing.
-use Rattle.usb_device_stall.proofs.Laws.{stalled-whole}
+use Rattle.call_rules.proofs.Stall.{stalled-whole}
 use borrow.Author.Needs.{needs}
 use Rattle.usb_device_stall.proofs.set_stalled.Statement.{statement}
 use Rattle.usb_device_stall.proofs.set_stalled.Tie as tie

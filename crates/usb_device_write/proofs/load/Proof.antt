@@ -1,5 +1,5 @@
 -- `usb_device_write::load` meets its contract. Assumes nothing.
-use Rattle.usb_device_write.proofs.Laws.{fits-area, fits-cast, at-area, loaded-by}
+use Rattle.transfer_rules.proofs.Write.{fits-area, fits-cast, at-area, loaded-by}
 use borrow.Author.Needs.{needs}
 use Rattle.usb_device_write.proofs.load.Statement.{statement}
 use Rattle.usb_device_write.proofs.load.Tie as tie

@@ -1,5 +1,5 @@
 -- `usb_device_write::send` meets its contract. Assumes nothing.
-use Rattle.usb_device_write.proofs.Laws.{zero-sent, other-sent}
+use Rattle.transfer_rules.proofs.Write.{zero-sent, other-sent}
 use borrow.Author.Needs.{needs}
 use Rattle.usb_device_write.proofs.send.Statement.{statement}
 use Rattle.usb_device_write.proofs.send.Tie as tie

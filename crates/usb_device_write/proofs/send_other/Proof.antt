@@ -1,5 +1,5 @@
 -- `usb_device_write::send_other` meets its contract. Assumes nothing.
-use Rattle.usb_device_write.proofs.Laws.{other-by}
+use Rattle.transfer_rules.proofs.Write.{other-by}
 use borrow.Author.Needs.{needs}
 use Rattle.usb_device_write.proofs.send_other.Statement.{statement}
 use Rattle.usb_device_write.proofs.send_other.Tie as tie

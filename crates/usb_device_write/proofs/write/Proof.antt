@@ -1,5 +1,5 @@
 -- `usb_device_write::write` meets its contract. Assumes nothing.
-use Rattle.usb_device_write.proofs.Laws.{call-whole}
+use Rattle.transfer_rules.proofs.Write.{call-whole}
 use borrow.Author.Needs.{needs}
 use Rattle.usb_device_write.proofs.write.Statement.{statement}
 use Rattle.usb_device_write.proofs.write.Tie as tie

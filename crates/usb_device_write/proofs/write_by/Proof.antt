@@ -1,7 +1,7 @@
 -- `usb_device_write::write_by` meets its contract. Assumes nothing.
 use native.Mathlib.Omega.{arith}
-use Rattle.usb_device_write.proofs.Verdicts.{clear-fits, blocked-fits}
-use Rattle.usb_device_write.proofs.Laws.{call-clear, call-blocked, call-refused}
+use Rattle.transfer_rules.proofs.WriteVerdicts.{clear-fits, blocked-fits}
+use Rattle.transfer_rules.proofs.Write.{call-clear, call-blocked, call-refused}
 use borrow.Author.Needs.{needs}
 use Rattle.usb_device_write.proofs.write_by.Statement.{statement}
 use Rattle.usb_device_write.proofs.write_by.Tie as tie

@@ -1,2 +1,0 @@
-pub mod Allocate
-pub mod Replies

@@ -1,0 +1,15 @@
+pub mod Calls
+pub mod Replies
+pub mod Alloc
+pub mod AllocReplies
+pub mod Reset
+pub mod ResetReplies
+pub mod Resetting
+pub mod ResetWalk
+pub mod Stall
+pub mod StallReplies
+pub mod Stalling
+pub mod InterruptReplies
+pub mod Flags
+pub mod Interrupt
+pub mod Taken

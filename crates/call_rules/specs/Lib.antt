@@ -1,0 +1,12 @@
+pub mod Calls
+pub mod Replies
+pub mod Alloc
+pub mod AllocReplies
+pub mod Reset
+pub mod Resetting
+pub mod Stall
+pub mod StallReplies
+pub mod Stalling
+pub mod Interrupt
+pub mod InterruptReplies
+pub mod Taken

@@ -1,3 +1,0 @@
-pub mod Common
-pub mod Kept
-pub mod Stalling

@@ -1,4 +1,0 @@
-pub mod Written
-pub mod Selected
-pub mod Counted
-pub mod Examples

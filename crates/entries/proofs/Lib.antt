@@ -1,5 +1,0 @@
-pub mod Cases
-pub mod Ranges
-pub mod Inside
-pub mod Codes
-pub mod Found

@@ -1,4 +1,0 @@
-pub mod Laws
-pub mod Turns
-pub mod Drained
-pub mod Cleared

@@ -1,0 +1,6 @@
+pub mod Shown
+pub mod Act
+pub mod Report
+pub mod Runs
+pub mod DetailLines
+pub mod DetailNumbers

@@ -1,0 +1,9 @@
+pub mod Cleared
+pub mod Drained
+pub mod Walk
+pub mod Turns
+pub mod Accepted
+pub mod Zero
+pub mod PollReplies
+pub mod Poll
+pub mod Steps

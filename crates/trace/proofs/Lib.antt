@@ -1,3 +1,0 @@
-pub mod Once
-pub mod Steps
-pub mod Whole

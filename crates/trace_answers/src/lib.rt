@@ -1,0 +1,333 @@
+// The line of an entry that was carried out: its code, and the reply and values of its answer (document 01, 'Event trace').
+// A refused entry shows code and reply only. Each function gives the length of its line, which stands at the front of the lent buffer.
+use call_rules::AllocAnswer;
+use call_rules::AllocCalled;
+use call_rules::Called;
+use call_rules::InterruptAnswer;
+use call_rules::InterruptCalled;
+use call_rules::Reply;
+use call_rules::StalledAnswer;
+use call_rules::StalledCalled;
+use host_rules::CollectAnswer;
+use host_rules::CollectCalled;
+use host_rules::EventAnswer;
+use host_rules::EventCalled;
+use record::Refusal;
+use report_rules::Acted;
+use round_rules::PollAnswer;
+use round_rules::PollCalled;
+use round_rules::PollResult;
+use transfer_rules::ReadAnswer;
+use transfer_rules::ReadCalled;
+use transfer_rules::WriteAnswer;
+use transfer_rules::WriteCalled;
+ghost use mathlib.Core.Path.{_≡_};
+ghost use mathlib.Core.Bool.{cond};
+ghost use mathlib.Core.List.{[], _∷_};
+ghost use Prim.Native.Nat.{_+_, _*_, _≤_, _<_, _^_, min};
+ghost use lib.ListN.{length, take, drop};
+ghost use Rattle.record.specs.Record.{refusalNumber};
+ghost use Rattle.call_rules.specs.Calls.{replyNumber};
+ghost use Rattle.call_rules.specs.Alloc.{allocationNumber, allocationValues};
+ghost use Rattle.call_rules.specs.Stall.{toldNumber, toldValues};
+ghost use Rattle.transfer_rules.specs.WriteZero.{wroteNumber, wroteValues};
+ghost use Rattle.transfer_rules.specs.ReadZero.{gotNumber, gotValues};
+ghost use Rattle.round_rules.specs.Poll.{pollNumber, pollValues, resultValues};
+ghost use Rattle.call_rules.specs.Interrupt.{interruptNumber};
+ghost use Rattle.host_rules.specs.Host.{happenedNumber, takenNumber, takenValues, InBuffer};
+ghost use Rattle.report_rules.specs.Shown.{Shows, Gives, wroteFits, gotFits};
+
+fn wide(x: u8) -> u32
+    ensures { λ r. ⌜ r ≡ x ⌝ }
+{
+    x as u32
+}
+
+fn wide_mask(x: u16) -> u32
+    ensures { λ r. ⌜ r ≡ x ⌝ }
+{
+    x as u32
+}
+
+fn as_number(b: bool) -> u32
+    ensures { λ r. ⌜ r ≡ cond b 1 0 ⌝ }
+{
+    if b {
+        return 1;
+    }
+    0
+}
+
+fn least(a: usize, b: usize) -> usize
+    ensures { λ r. ⌜ (r ≡ min a b) × (r ≤ b) ⌝ }
+{
+    if a < b {
+        return a;
+    }
+    b
+}
+
+fn show_refusal(line: &mut [u8], code: u8, x: Refusal) -> usize
+    requires { ⌜ 100 ≤ length (now line) ⌝ }
+    ensures { λ r. ⌜ Shows (now (line .entry)) (now (line .exit)) r code (refusalNumber x) [] ⌝ }
+{
+    trace_report::reply_line(line, code, record_ops::refusal_number(x))
+}
+
+fn show_reply(line: &mut [u8], code: u8, a: Reply) -> usize
+    requires { ⌜ 100 ≤ length (now line) ⌝ }
+    ensures { λ r. ⌜ Shows (now (line .entry)) (now (line .exit)) r code (replyNumber a) [] ⌝ }
+{
+    trace_report::reply_line(line, code, usb_device_impl::reply_number(a))
+}
+
+fn show_happened(line: &mut [u8], code: u8, a: EventAnswer) -> usize
+    requires { ⌜ 100 ≤ length (now line) ⌝ }
+    ensures { λ r. ⌜ Shows (now (line .entry)) (now (line .exit)) r code (happenedNumber a) [] ⌝ }
+{
+    trace_report::reply_line(line, code, host::happened_number(a))
+}
+
+fn show_interrupted(line: &mut [u8], code: u8, a: InterruptAnswer) -> usize
+    requires { ⌜ 100 ≤ length (now line) ⌝ }
+    ensures { λ r. ⌜ Shows (now (line .entry)) (now (line .exit)) r code (interruptNumber a) [] ⌝ }
+{
+    match a {
+        InterruptAnswer::Done => trace_report::reply_line(line, code, 0),
+        InterruptAnswer::Refused(x) => show_refusal(line, code, x),
+    }
+}
+
+// "the endpoint"
+fn show_allocation(line: &mut [u8], code: u8, a: AllocAnswer) -> usize
+    requires { ⌜ 100 ≤ length (now line) ⌝ }
+    ensures { λ r. ⌜ Shows (now (line .entry)) (now (line .exit)) r code (allocationNumber a) (allocationValues a) ⌝ }
+{
+    match a {
+        AllocAnswer::Done(n) => trace_report::value_line(line, code, 0, wide(n)),
+        AllocAnswer::NotGiven(x) => trace_report::reply_line(
+            line,
+            code,
+            endpoint_ops::error_number(x),
+        ),
+        AllocAnswer::Refused(x) => show_refusal(line, code, x),
+    }
+}
+
+// "0 or 1"
+fn show_told(line: &mut [u8], code: u8, a: StalledAnswer) -> usize
+    requires { ⌜ 100 ≤ length (now line) ⌝ }
+    ensures { λ r. ⌜ Shows (now (line .entry)) (now (line .exit)) r code (toldNumber a) (toldValues a) ⌝ }
+{
+    match a {
+        StalledAnswer::Done(b) => trace_report::value_line(line, code, 0, as_number(b)),
+        StalledAnswer::Refused(x) => show_refusal(line, code, x),
+    }
+}
+
+// "written length"
+fn show_wrote(line: &mut [u8], code: u8, a: WriteAnswer) -> usize
+    requires { ⌜ (100 ≤ length (now line)) × wroteFits a ⌝ }
+    ensures { λ r. ⌜ Shows (now (line .entry)) (now (line .exit)) r code (wroteNumber a) (wroteValues a) ⌝ }
+{
+    match a {
+        WriteAnswer::Done(n) => trace_report::value_line(line, code, 0, n as u32),
+        WriteAnswer::Refused(x) => show_refusal(line, code, x),
+    }
+}
+
+fn show_stored(line: &mut [u8], code: u8, n: usize, buf: &[u8]) -> usize
+    requires { ⌜ (100 + 4 * length (now buf) ≤ length (now line)) × (n < 2 ^ 32) ⌝ }
+    ensures { λ r. ⌜ Shows (now (line .entry)) (now (line .exit)) r code 0 (n ∷ take (min n (length (now (buf .entry)))) (now (buf .entry))) ⌝ }
+{
+    let m = least(n, buf.len());
+    trace_report::counted_line(line, code, 0, n as u32, &buf[..m])
+}
+
+// "for reads the count then stored bytes", which stand at the front of the read's buffer
+fn show_got(line: &mut [u8], code: u8, a: ReadAnswer, buf: &[u8]) -> usize
+    requires { ⌜ (100 + 4 * length (now buf) ≤ length (now line)) × gotFits a ⌝ }
+    ensures { λ r. ⌜ Shows (now (line .entry)) (now (line .exit)) r code (gotNumber a) (gotValues a (now (buf .entry))) ⌝ }
+{
+    match a {
+        ReadAnswer::Done(n) => show_stored(line, code, n, buf),
+        ReadAnswer::Refused(x) => show_refusal(line, code, x),
+    }
+}
+
+// "0 None, 1 Data with out, in, setup masks, 2 Reset, 3 Resume, 4 Suspend"
+fn show_result(line: &mut [u8], code: u8, a: PollResult) -> usize
+    requires { ⌜ 100 ≤ length (now line) ⌝ }
+    ensures { λ r. ⌜ Shows (now (line .entry)) (now (line .exit)) r code 0 (resultValues a) ⌝ }
+{
+    match a {
+        PollResult::None => trace_report::value_line(line, code, 0, 0),
+        PollResult::Data(m) => trace_report::masks_line(
+            line,
+            code,
+            0,
+            1,
+            wide_mask(m.ep_out),
+            wide_mask(m.ep_in_complete),
+            wide_mask(m.ep_setup),
+        ),
+        PollResult::Reset => trace_report::value_line(line, code, 0, 2),
+        PollResult::Resume => trace_report::value_line(line, code, 0, 3),
+        PollResult::Suspend => trace_report::value_line(line, code, 0, 4),
+    }
+}
+
+fn show_poll(line: &mut [u8], code: u8, a: PollAnswer) -> usize
+    requires { ⌜ 100 ≤ length (now line) ⌝ }
+    ensures { λ r. ⌜ Shows (now (line .entry)) (now (line .exit)) r code (pollNumber a) (pollValues a) ⌝ }
+{
+    match a {
+        PollAnswer::Done(p) => show_result(line, code, p),
+        PollAnswer::Refused(x) => show_refusal(line, code, x),
+    }
+}
+
+fn show_part(line: &mut [u8], code: u8, start: usize, len: usize, fifo: &[u8]) -> usize
+    requires { ⌜ (100 + 4 * length (now fifo) ≤ length (now line)) × (start + len ≤ length (now fifo)) ⌝ }
+    ensures { λ r. ⌜ Shows (now (line .entry)) (now (line .exit)) r code 0 (take len (drop start (now (fifo .entry)))) ⌝ }
+{
+    let end = start + len;
+    trace_report::bytes_line(line, code, 0, &fifo[start..end])
+}
+
+// "for collect the bytes", at the place that the collection gave
+fn show_taken(line: &mut [u8], code: u8, a: CollectAnswer, fifo: &[u8]) -> usize
+    requires { ⌜ (100 + 4 * length (now fifo) ≤ length (now line)) × InBuffer a (now fifo) ⌝ }
+    ensures { λ r. ⌜ Shows (now (line .entry)) (now (line .exit)) r code (takenNumber a) (takenValues a (now (fifo .entry))) ⌝ }
+{
+    match a {
+        CollectAnswer::Done(start, len) => show_part(line, code, start, len, fifo),
+        CollectAnswer::Refused(x) => show_refusal(line, code, x),
+    }
+}
+
+pub fn called(line: &mut [u8], code: u8, o: Called) -> Acted
+    requires { ⌜ 100 ≤ length (now line) ⌝ }
+    ensures { λ r. ⌜ Gives (now (line .entry)) (now (line .exit)) r code (o .«record») (o .stores) (replyNumber (o .answer)) [] ⌝ }
+{
+    let a = o.answer;
+    let k = o.record;
+    let len = show_reply(line, code, a);
+    Acted {
+        record: k,
+        stores: o.stores,
+        len,
+    }
+}
+
+pub fn allocated(line: &mut [u8], code: u8, o: AllocCalled) -> Acted
+    requires { ⌜ 100 ≤ length (now line) ⌝ }
+    ensures { λ r. ⌜ Gives (now (line .entry)) (now (line .exit)) r code (o .«record») 0 (allocationNumber (o .answer)) (allocationValues (o .answer)) ⌝ }
+{
+    let a = o.answer;
+    let k = o.record;
+    let len = show_allocation(line, code, a);
+    Acted {
+        record: k,
+        stores: 0,
+        len,
+    }
+}
+
+pub fn told(line: &mut [u8], code: u8, o: StalledCalled) -> Acted
+    requires { ⌜ 100 ≤ length (now line) ⌝ }
+    ensures { λ r. ⌜ Gives (now (line .entry)) (now (line .exit)) r code (o .«record») (o .stores) (toldNumber (o .answer)) (toldValues (o .answer)) ⌝ }
+{
+    let a = o.answer;
+    let k = o.record;
+    let len = show_told(line, code, a);
+    Acted {
+        record: k,
+        stores: o.stores,
+        len,
+    }
+}
+
+pub fn wrote(line: &mut [u8], code: u8, o: WriteCalled) -> Acted
+    requires { ⌜ (100 ≤ length (now line)) × wroteFits (o .answer) ⌝ }
+    ensures { λ r. ⌜ Gives (now (line .entry)) (now (line .exit)) r code (o .«record») (o .stores) (wroteNumber (o .answer)) (wroteValues (o .answer)) ⌝ }
+{
+    let a = o.answer;
+    let k = o.record;
+    let len = show_wrote(line, code, a);
+    Acted {
+        record: k,
+        stores: o.stores,
+        len,
+    }
+}
+
+pub fn got(line: &mut [u8], code: u8, o: ReadCalled, buf: &[u8]) -> Acted
+    requires { ⌜ (100 + 4 * length (now buf) ≤ length (now line)) × gotFits (o .answer) ⌝ }
+    ensures { λ r. ⌜ Gives (now (line .entry)) (now (line .exit)) r code (o .«record») (o .stores) (gotNumber (o .answer)) (gotValues (o .answer) (now (buf .entry))) ⌝ }
+{
+    let a = o.answer;
+    let k = o.record;
+    let len = show_got(line, code, a, buf);
+    Acted {
+        record: k,
+        stores: o.stores,
+        len,
+    }
+}
+
+pub fn polled(line: &mut [u8], code: u8, o: PollCalled) -> Acted
+    requires { ⌜ 100 ≤ length (now line) ⌝ }
+    ensures { λ r. ⌜ Gives (now (line .entry)) (now (line .exit)) r code (o .«record») (o .stores) (pollNumber (o .answer)) (pollValues (o .answer)) ⌝ }
+{
+    let a = o.answer;
+    let k = o.record;
+    let len = show_poll(line, code, a);
+    Acted {
+        record: k,
+        stores: o.stores,
+        len,
+    }
+}
+
+pub fn interrupted(line: &mut [u8], code: u8, o: InterruptCalled) -> Acted
+    requires { ⌜ 100 ≤ length (now line) ⌝ }
+    ensures { λ r. ⌜ Gives (now (line .entry)) (now (line .exit)) r code (o .«record») 0 (interruptNumber (o .answer)) [] ⌝ }
+{
+    let a = o.answer;
+    let k = o.record;
+    let len = show_interrupted(line, code, a);
+    Acted {
+        record: k,
+        stores: 0,
+        len,
+    }
+}
+
+pub fn happened(line: &mut [u8], code: u8, o: EventCalled) -> Acted
+    requires { ⌜ 100 ≤ length (now line) ⌝ }
+    ensures { λ r. ⌜ Gives (now (line .entry)) (now (line .exit)) r code (o .«record») 0 (happenedNumber (o .answer)) [] ⌝ }
+{
+    let a = o.answer;
+    let k = o.record;
+    let len = show_happened(line, code, a);
+    Acted {
+        record: k,
+        stores: 0,
+        len,
+    }
+}
+
+pub fn collected(line: &mut [u8], code: u8, o: CollectCalled, fifo: &[u8]) -> Acted
+    requires { ⌜ (100 + 4 * length (now fifo) ≤ length (now line)) × InBuffer (o .answer) (now fifo) ⌝ }
+    ensures { λ r. ⌜ Gives (now (line .entry)) (now (line .exit)) r code (o .«record») 0 (takenNumber (o .answer)) (takenValues (o .answer) (now (fifo .entry))) ⌝ }
+{
+    let a = o.answer;
+    let k = o.record;
+    let len = show_taken(line, code, a, fifo);
+    Acted {
+        record: k,
+        stores: 0,
+        len,
+    }
+}

@@ -1,0 +1,61 @@
+-- The arguments of an entry: numbers of the trace, each in its range, and what they stand for.
+-- Assumes nothing.
+use Prim.Native.Nat.{ℕ, _-_}
+use mathlib.Core.List.{List}
+use mathlib.Core.Bool.{Bool, cond}
+use lib.Dec.{leb, eqb}
+use Rattle.trace_rules.specs.declared.Number.{Number}
+use Rattle.trace_rules.specs.declared.Number.the-variants.{Value, Bad}
+use Rattle.trace_rules.specs.Groups.{numberAt}
+use Rattle.board.specs.declared.Direction.{Direction}
+use Rattle.board.specs.declared.Direction.the-variants.{Out, In}
+use Rattle.endpoints.specs.declared.EndpointType.{EndpointType}
+use Rattle.endpoints.specs.declared.EndpointType.the-variants.{Control, Isochronous, Bulk, Interrupt}
+use Rattle.endpoints.specs.declared.Wanted.{Wanted}
+use Rattle.endpoints.specs.declared.Wanted.the-variants.{Any, Number as Want}
+use Rattle.trace_rules.specs.declared.BusEvent.{BusEvent}
+use Rattle.trace_rules.specs.declared.BusEvent.the-variants.{Reset, Suspend, Resume}
+use Rattle.trace_rules.specs.declared.Arg.{Arg}
+use Rattle.trace_rules.specs.declared.Arg.the-variants.{Got, No}
+use Rattle.trace_rules.specs.declared.Two.{Two}
+use Rattle.trace_rules.specs.declared.Two.the-variants.{Both, Neither}
+
+abbrev pub inRange : ℕ → Number → Arg
+inRange most (Value a past) = cond (leb a most) (Got a past) No
+inRange most Bad = No
+
+-- the number at a place, where it is at most `most`
+unfoldable pub argAt : List ℕ → ℕ → ℕ → Arg
+argAt s at most = inRange most (numberAt s at)
+
+abbrev pub joined : ℕ → Arg → Two
+joined a (Got b past) = Both a b past
+joined a No = Neither
+
+abbrev pub second : List ℕ → ℕ → Arg → Two
+second s n (Got a mid) = joined a (argAt s mid n)
+second s n No = Neither
+
+-- two numbers from a place on, at most m and at most n
+unfoldable pub twoAt : List ℕ → ℕ → ℕ → ℕ → Two
+twoAt s at m n = second s n (argAt s at m)
+
+-- "direction 0 out 1 in"
+abbrev pub directionOf : ℕ → Direction
+directionOf n = cond (eqb n 0) Out In
+
+-- "0 or wanted+1"
+abbrev pub wantedOf : ℕ → Wanted
+wantedOf n = cond (eqb n 0) Any (Want (n - 1))
+
+-- "type 0 control 1 isochronous 2 bulk 3 interrupt"
+abbrev pub typeOf : ℕ → EndpointType
+typeOf n = cond (eqb n 0) Control (cond (eqb n 1) Isochronous (cond (eqb n 2) Bulk Interrupt))
+
+-- "bus (0 reset 1 suspend 2 resume)"
+abbrev pub busOf : ℕ → BusEvent
+busOf n = cond (eqb n 0) Reset (cond (eqb n 1) Suspend Resume)
+
+-- "0 or 1"
+abbrev pub flagOf : ℕ → Bool
+flagOf n = eqb n 1

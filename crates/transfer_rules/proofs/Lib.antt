@@ -1,0 +1,17 @@
+pub mod Endings
+pub mod Lent
+pub mod Readings
+pub mod WriteTests
+pub mod WriteZero
+pub mod Phases
+pub mod WriteAnswers
+pub mod Write
+pub mod WriteReplies
+pub mod WriteVerdicts
+pub mod ReadTests
+pub mod ReadZeroAnswers
+pub mod ReadZero
+pub mod ReadAnswers
+pub mod Read
+pub mod ReadReplies
+pub mod ReadVerdicts

@@ -1,0 +1,10 @@
+pub mod Peek
+pub mod WriteTests
+pub mod Phases
+pub mod WriteZero
+pub mod WriteReplies
+pub mod Write
+pub mod ReadTests
+pub mod ReadZero
+pub mod Read
+pub mod ReadReplies

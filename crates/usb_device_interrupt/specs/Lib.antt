@@ -1,3 +1,0 @@
-pub mod Interrupt
-pub mod Replies
-pub mod Taken

@@ -1,4 +1,0 @@
-pub mod Round
-pub mod Poll
-pub mod Steps
-pub mod Replies
