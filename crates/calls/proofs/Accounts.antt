@@ -1,11 +1,11 @@
 -- What an account of a call is, and how one is put together from the call's steps. Assumes nothing.
-use Prim.Native.Nat.{ℕ, _^_, _<_}
+use Prim.Native.Nat.{ℕ, _+_, _^_, _<_, _≤_}
 use mathlib.Core.Path.{_≡_, refl, ap}
 use mathlib.Core.Bool.{Bool, true, false, cond}
-use mathlib.Core.List.{List, []}
+use mathlib.Core.List.{List}
 use mathlib.Core.Logic.{_⊎_, inl, inr}
 use borrow.Author.Tests.{leb-false}
-use lib.Dec.{leb}
+use lib.Dec.{leb, lit≤}
 use lib.ListN.{length}
 use Rattle.board.specs.declared.Board.{Board}
 use Rattle.board.specs.Boards.{rows}
@@ -25,44 +25,56 @@ use Rattle.record.specs.declared.Record.{Record}
 use Rattle.record.specs.declared.Admission.the-variants.{Clear}
 use Rattle.record.specs.Record.{recordSound, endpointsIn, endpointsOf, admissionBy}
 use Rattle.record.proofs.Rows.{none-refused}
-use Rattle.calls.proofs.Steps.{Step, one, Reached, none, then, Sane, Gentle, Careful, gentle-sane, careful-gentle}
+use Rattle.transfer_rules.specs.Peek.{short}
+use Rattle.transfer_rules.proofs.Lent.{lent-enough}
+use Rattle.calls.proofs.Steps.{Step, one, Reached, none, then, within, Sane, Gentle, Careful, gentle-sane, careful-gentle}
 
 -- reply 16: no "flag above bit 5", the board's own last endpoint being the highest
 abbrev pub Low : Board → Flags → Type 0
 Low b f = (f .«ep_tx» < 2 ^ length (rows b)) × (f .«ep_rx» < 2 ^ length (rows b))
 
--- q is the record k after a call: allowed steps lead to its registers, none where reply 16 was given, and no flag comes above the last
--- endpoint's
-pub record Account (May : Step → Log → Type 0) (k q : Record) : Type 0 where
-  pub list : List ℕ
-  pub last : Log
-  pub path : Reached May (log (k .regs .words) list 0) last
-  pub is : q .regs .words ≡ last .regs
+-- neither 15 nor 16 is given: "The list must hold 128 stores"
+abbrev pub Passes : Record → List ℕ → Type 0
+Passes k l = (recordSound k ≡ true) × (384 ≤ length l)
+
+pub lent-passes : (k : Record) (f l : List ℕ) → recordSound k ≡ true → short k (length f) (length l) ≡ false → Passes k l
+lent-passes k f l p q = (p, lent-enough k (length f) (length l) q .1)
+
+-- q is the record k after a call that was lent the list l and leaves m in it, with the count n: allowed steps, at most 128 stores, lead to its
+-- registers, to that list and that count, none where reply 15 or 16 was given, and no flag comes above the last endpoint's
+pub record Account (May : Step → Log → Type 0) (k : Record) (l : List ℕ) (q : Record) (m : List ℕ) (n : ℕ) : Type 0 where
+  pub path : Reached May (log (k .regs .words) l 0) 128 (log (q .regs .words) m n)
   pub board : q .regs .board ≡ k .regs .board
-  pub served : (q .regs .words ≡ k .regs .words) ⊎ (recordSound k ≡ true)
+  pub served : ((q .regs .words ≡ k .regs .words) × (n ≡ 0)) ⊎ Passes k l
   pub flags : Low (k .regs .board) (k .irq) → Low (k .regs .board) (q .irq)
 
 -- nothing is stored
-pub left : {May : Step → Log → Type 0} {k q : Record} → q .regs ≡ k .regs → q .irq ≡ k .irq → Account May k q
-left {k = k} p f =
+pub left : {May : Step → Log → Type 0} {k q : Record} {l : List ℕ} → q .regs ≡ k .regs → q .irq ≡ k .irq → Account May k l q l 0
+left p f =
     let w = ap (λ (r : Regs). r .words) p in
-    record { list = []; last = log (k .regs .words) [] 0; path = none; is = w; board = ap (λ (r : Regs). r .board) p; served = inl w; flags = λ h. rw f h }
+    record { path = rw w (within none 128 (lit≤ tt)); board = ap (λ (r : Regs). r .board) p; served = inl (w, refl); flags = λ h. rw f h }
 
 -- the stores of g, and the flags as they were
-pub stores : {May : Step → Log → Type 0} {k q : Record} (l : List ℕ) (g : Log) → recordSound k ≡ true → Reached May (log (k .regs .words) l 0) g
-    → q .regs .words ≡ g .regs → q .regs .board ≡ k .regs .board → q .irq ≡ k .irq → Account May k q
-stores l g s r p c f = record { list = l; last = g; path = r; is = p; board = c; served = inr s; flags = λ h. rw f h }
+pub stores : {May : Step → Log → Type 0} {k q : Record} (l : List ℕ) (g : Log) → Passes k l → Reached May (log (k .regs .words) l 0) 128 g
+    → q .regs .words ≡ g .regs → q .regs .board ≡ k .regs .board → q .irq ≡ k .irq → Account May k l q (g .list) (g .count)
+stores l g s r p c f = record { path = rw p r; board = c; served = inr s; flags = λ h. rw f h }
 
-pub sane : {b : Board} {k q : Record} → Account (Gentle b) k q → Account (Sane b) k q
-sane a = record { list = a .list; last = a .last; path = gentle-sane (a .path); is = a .is; board = a .board; served = a .served; flags = a .flags }
+pub sane : {b : Board} {k q : Record} {l m : List ℕ} {n : ℕ} → Account (Gentle b) k l q m n → Account (Sane b) k l q m n
+sane a = record { path = gentle-sane (a .path); board = a .board; served = a .served; flags = a .flags }
 
-pub gentle : {b : Board} {k q : Record} → Account (Careful b) k q → Account (Gentle b) k q
-gentle a = record { list = a .list; last = a .last; path = careful-gentle (a .path); is = a .is; board = a .board; served = a .served; flags = a .flags }
+pub gentle : {b : Board} {k q : Record} {l m : List ℕ} {n : ℕ} → Account (Careful b) k l q m n → Account (Gentle b) k l q m n
+gentle a = record { path = careful-gentle (a .path); board = a .board; served = a .served; flags = a .flags }
 
 -- whichever a test decides for
 pub by-test : {A : Type 0} (P : A → Type 0) (t : Bool) {x y : A} → P x → P y → P (cond t x y)
 by-test P true p q = p
 by-test P false p q = q
+
+-- and either way no more than d stores
+pub at-most : {May : Step → Log → Type 0} {g x y : Log} {c e : ℕ} (d : ℕ) (t : Bool) → Reached May g c x → Reached May g e y → c ≤ d → e ≤ d
+    → Reached May g d (cond t x y)
+at-most d true r q i j = within r d i
+at-most d false r q i j = within q d j
 
 -- a `modify` is a store of what was read with a bit changed
 abbrev pub txModify : TxcsrlSet → Log → Store
@@ -74,18 +86,18 @@ rxModify s h = rxcsrl (rxcsrlSet s (rxcsrlRead (h .regs)))
 abbrev pub zeroModify : Csr0lSet → Log → Store
 zeroModify s h = csr0l (csr0lSet s (csr0lRead (h .regs)))
 
-module _ {b : Board} {g h : Log} (r : Reached (Careful b) g h) where
-  pub tx-modifies : (s : TxcsrlSet) → Reached (Careful b) g (modifyTxcsrl s h)
+module _ {b : Board} {g h : Log} {c : ℕ} (r : Reached (Careful b) g c h) where
+  pub tx-modifies : (s : TxcsrlSet) → Reached (Careful b) g (c + 1) (modifyTxcsrl s h)
   tx-modifies s = rw (modify-txcsrl s h) (then r (one (txModify s h)) ((tt, tx-modified s (h .regs)), inl tt))
 
-  pub zero-modifies : (s : Csr0lSet) → Reached (Careful b) g (modifyCsr0l s h)
+  pub zero-modifies : (s : Csr0lSet) → Reached (Careful b) g (c + 1) (modifyCsr0l s h)
   zero-modifies s = rw (modify-csr0l s h) (then r (one (zeroModify s h)) ((tt, tt), inl tt))
 
   -- a repaired overrun keeps the packet; any other `modify` of RXCSRL drops it
-  pub rx-repairs : Reached (Careful b) g (modifyRxcsrl NoOverRun h)
+  pub rx-repairs : Reached (Careful b) g (c + 1) (modifyRxcsrl NoOverRun h)
   rx-repairs = rw (modify-rxcsrl NoOverRun h) (then r (one (rxModify NoOverRun h)) ((tt, rx-modified NoOverRun (h .regs)), inr refl))
 
-  pub rx-modifies : (s : RxcsrlSet) → Reached (Gentle b) g (modifyRxcsrl s h)
+  pub rx-modifies : (s : RxcsrlSet) → Reached (Gentle b) g (c + 1) (modifyRxcsrl s h)
   rx-modifies s = rw (modify-rxcsrl s h) (then (careful-gentle r) (one (rxModify s h)) (tt, rx-modified s (h .regs)))
 
 -- reply 8 is not given: the endpoint is one of the board's
@@ -93,9 +105,6 @@ pub there : (k : Record) (e : ℕ) → leb (endpointsOf k) e ≡ false → e < l
 unfolding endpointsOf endpointsIn
 there k e p = leb-false (length (rows (k .regs .board))) e p
 
--- where the first tests refuse nothing, the record passes and the endpoint is there
-pub passes : (s p x : Bool) → admissionBy s p x ≡ Clear → p ≡ true
-passes s p x c = none-refused s p x c .1
-
+-- where the first tests refuse nothing, the endpoint is there
 pub below : (k : Record) (e : ℕ) (s p : Bool) → admissionBy s p (leb (endpointsOf k) e) ≡ Clear → e < length (rows (k .regs .board))
 below k e s p c = there k e (none-refused s p _ c .2)

@@ -1,20 +1,20 @@
 -- Only stalling and the reset call change SendStall of endpoints 1 to 5. Assumes nothing.
+use Prim.Native.Nat.{ℕ}
 use mathlib.Core.Path.{_≡_, refl, ap, _∙_}
-use mathlib.Core.Bool.{true}
 use mathlib.Core.Logic.{_⊎_, inl, inr}
+use mathlib.Core.List.{List}
 use Rattle.csr.specs.declared.Side.{Side}
 use Rattle.register_file.specs.Registers.{File, Whole, sideAt}
 use Rattle.store_rules.specs.Promise.{SameHalts}
 use Rattle.event_rules.specs.Promise.{Event}
 use Rattle.event_rules.proofs.Halts as events
 use Rattle.record.specs.declared.Record.{Record}
-use Rattle.record.specs.Record.{recordSound}
 use Rattle.record.proofs.Passing.{record-is-sound}
 use Rattle.call_rules.specs.Interrupt.{interrupted}
 use Rattle.calls.specs.Calls.{Op}
 use Rattle.calls.specs.Kept.{SparesHalts}
 use Rattle.calls.proofs.Steps.{Gentle, same-halts}
-use Rattle.calls.proofs.Accounts.{Account}
+use Rattle.calls.proofs.Accounts.{Account, Passes}
 use Rattle.calls.proofs.Happening.{Happens, refused, happened, cleared-side}
 use Rattle.calls.proofs.Kept.{to-holds, Interrupts, refused as not-taken, taken, Accounted, gentle, stalling, event, interrupt, account}
 
@@ -26,12 +26,13 @@ module _ (k : Record) where
   unchanged : {q : File} → q ≡ k .regs .words → SameHalts (k .regs .words) q
   unchanged p = through p (λ e d n. refl)
 
-  call-halts : {q : Record} → Whole (k .regs .words) → Account (Gentle (k .regs .board)) k q → SameHalts (k .regs .words) (q .regs .words)
-  call-halts {q} six a = go (a .served)
+  call-halts : {l m : List ℕ} {q : Record} {n : ℕ} → Whole (k .regs .words) → Account (Gentle (k .regs .board)) k l q m n
+      → SameHalts (k .regs .words) (q .regs .words)
+  call-halts {l = l} {q = q} {n = n} six a = go (a .served)
     where
-      go : (q .regs .words ≡ k .regs .words) ⊎ (recordSound k ≡ true) → SameHalts (k .regs .words) (q .regs .words)
-      go (inl p) = unchanged p
-      go (inr s) = through (a .is) (same-halts (a .path) (to-holds k (record-is-sound k s) six))
+      go : ((q .regs .words ≡ k .regs .words) × (n ≡ 0)) ⊎ Passes k l → SameHalts (k .regs .words) (q .regs .words)
+      go (inl p) = unchanged (p .0)
+      go (inr s) = same-halts (a .path) (to-holds k (record-is-sound k (s .0)) six)
 
   event-halts : {o : Event} {q : Record} → Whole (k .regs .words) → Happens o k q → SameHalts (k .regs .words) (q .regs .words)
   event-halts six (refused p) = unchanged (ap (λ (x : Record). x .regs .words) p)

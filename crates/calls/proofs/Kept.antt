@@ -2,20 +2,23 @@
 use Prim.Native.Nat.{ℕ}
 use mathlib.Core.Path.{_≡_, refl, sym, ap, subst, _∙_}
 use mathlib.Core.Bool.{Bool, true, false}
+use mathlib.Core.List.{List}
 use Rattle.board.specs.declared.Board.{Board}
 use Rattle.board.specs.declared.Direction.{Direction}
 use lib.ListN.{length}
-use Rattle.register_file.specs.Registers.{File, Whole, intrusb, intrOf}
+use Rattle.register_file.specs.Registers.{File, Whole}
 use Rattle.register_file.proofs.Sides.{fresh-words, fresh-whole}
 use Rattle.record.specs.declared.Record.{Record}
 use Rattle.record.specs.Record.{freshRecord, recordSound, areaIn, areaOf, SoundRecord}
 use Rattle.record.proofs.Areas.{size-at}
 use Rattle.record.proofs.Passing.{fresh-passes}
+use Rattle.store_rules.specs.Stores.{Log}
 use Rattle.event_rules.specs.Promise.{Event}
 use Rattle.call_rules.specs.Interrupt.{interrupted, interruptBy, interruptCall}
-use Rattle.calls.specs.Calls.{Op, allocEp, busInit, enable, reset, setDeviceAddress, write, read, setStalled, isStalled, poll, onInterrupt, forceReset, arrival, collection, busReset, suspend, resume, setupEnd, underrun, overrun, step}
+use Rattle.calls.specs.Calls.{Op, allocEp, busInit, enable, reset, setDeviceAddress, write, read, setStalled, isStalled, poll, onInterrupt, forceReset, arrival, collection, busReset, suspend, resume, setupEnd, underrun, overrun, outcome, step}
+use Rattle.calls.specs.Demand.{lent}
 use Rattle.calls.specs.Kept.{Good, Pending, Stores, WritesStall}
-use Rattle.calls.proofs.Steps.{Sane, Gentle, Holds, keeps, holds}
+use Rattle.calls.proofs.Steps.{Step, Sane, Gentle, Holds, keeps, holds}
 use Rattle.calls.proofs.Accounts.{Low, Account, left, sane, gentle as softer}
 use Rattle.calls.proofs.Simple as simple
 use Rattle.calls.proofs.Writing as writing
@@ -71,10 +74,13 @@ on-interrupt k = go (recordSound k) refl
     go true p = taken p refl
     go false p = refused refl
 
--- the account of every operation
+-- the account of all that an operation leaves
+abbrev pub By : (Board → Step → Log → Type 0) → Record → Op → Type 0
+By May k o = Account (May (k .regs .board)) k (lent o .list) (step k o) (outcome k o .list) (outcome k o .stores)
+
 pub data Accounted (k : Record) (o : Op) : Type 0 where
-  gentle : Account (Gentle (k .regs .board)) k (step k o) → Accounted k o
-  stalling : WritesStall o → Account (Sane (k .regs .board)) k (step k o) → Accounted k o
+  gentle : By Gentle k o → Accounted k o
+  stalling : WritesStall o → By Sane k o → Accounted k o
   event : {v : Event} → (Stores o → ⊥) → Happens v k (step k o) → Accounted k o
   interrupt : (Stores o → ⊥) → Interrupts k (step k o) → Accounted k o
 
@@ -102,8 +108,8 @@ account k (overrun e) six = event (λ c. c) (happening.overrun k e)
 
 -- the record stays good
 module _ (k : Record) where
-  call-good : {q : Record} → Account (Sane (k .regs .board)) k q → Good k → Good q
-  call-good {q} a g = good-after q (a .board) (a .is) (holds (a .path) (to-holds k (g .sound) (g .six))) (a .flags (g .sound .tx, g .sound .rx))
+  call-good : {l m : List ℕ} {q : Record} {n : ℕ} → Account (Sane (k .regs .board)) k l q m n → Good k → Good q
+  call-good {q = q} a g = good-after q (a .board) refl (holds (a .path) (to-holds k (g .sound) (g .six))) (a .flags (g .sound .tx, g .sound .rx))
 
   event-good : {o : Event} {q : Record} → Happens o k q → Good k → Good q
   event-good (not-happened p) g = subst Good (sym p) g
@@ -148,8 +154,8 @@ same-board k o six = board-of k (account k o six)
 
 -- no call but `on_interrupt` changes a pending interrupt
 pending-of : (k : Record) {o : Op} → Whole (k .regs .words) → Accounted k o → Stores o → Pending k (step k o)
-pending-of k six (gentle a) c = let t = keeps six (a .path) in record { usb = ap intrusb (a .is) ∙ t .usb; intr = λ d. ap (λ (r : File). intrOf r d) (a .is) ∙ t .intr d }
-pending-of k six (stalling w a) c = let t = keeps six (a .path) in record { usb = ap intrusb (a .is) ∙ t .usb; intr = λ d. ap (λ (r : File). intrOf r d) (a .is) ∙ t .intr d }
+pending-of k six (gentle a) c = let t = keeps six (a .path) in record { usb = t .usb; intr = t .intr }
+pending-of k six (stalling w a) c = let t = keeps six (a .path) in record { usb = t .usb; intr = t .intr }
 pending-of k six (event n h) c = absurd (n c)
 pending-of k six (interrupt n i) c = absurd (n c)
 

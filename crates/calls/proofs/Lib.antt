@@ -12,3 +12,4 @@ pub mod Halts
 pub mod Remains
 pub mod Ends
 pub mod Demand
+pub mod Listed

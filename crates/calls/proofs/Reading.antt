@@ -1,10 +1,9 @@
 -- The account of `read`: the index, the store that drops the packet, and DataEnd where the data end. Assumes nothing.
 use Prim.Native.Nat.{ℕ, _<_}
-use mathlib.Core.Path.{_≡_, refl, sym, ap, subst, _∙_}
-use mathlib.Core.Bool.{true}
+use mathlib.Core.Path.{refl, sym, ap, subst, _∙_}
 use mathlib.Core.List.{List}
 use mathlib.Core.Logic.{inl}
-use lib.Dec.{eqb, ltb, leb}
+use lib.Dec.{eqb, ltb, leb, lit≤}
 use lib.ListN.{length}
 use Rattle.board.specs.declared.Board.{Board}
 use Rattle.board.specs.Boards.{rows}
@@ -25,58 +24,61 @@ use Rattle.transfer_rules.specs.Read.{ReadOutcome, readOther, got, taken, readC
 use Rattle.transfer_rules.specs.ReadReplies.{unready, notReadable, notSetup, Given, done as granted, blocks, beyond, unreadable, unset, little, unsound}
 use Rattle.transfer_rules.proofs.ReadVerdicts.{told}
 use Rattle.transfer_rules.proofs.ReadAnswers.{tested, by-tests, exactly}
-use Rattle.calls.proofs.Steps.{Reached, none, then, one, Gentle, Careful, careful-gentle}
-use Rattle.calls.proofs.Accounts.{Account, left, stores, gentle, by-test, rx-modifies, zero-modifies, there}
+use Rattle.calls.proofs.Steps.{Reached, none, then, within, one, Gentle, Careful, careful-gentle}
+use Rattle.calls.proofs.Accounts.{Account, Passes, lent-passes, left, stores, gentle, by-test, rx-modifies, zero-modifies, there}
 
-module _ (k : Record) (ep n : ℕ) (l : List ℕ) (s : recordSound k ≡ true) (i : ep < length (rows (k .regs .board))) where
+module _ (k : Record) (ep n : ℕ) (l : List ℕ) (s : Passes k l) (i : ep < length (rows (k .regs .board))) where
   abbrev b : Board
   b = k .regs .board
 
   abbrev begun : Log
   begun = log (k .regs .words) l 0
 
-  abbrev Path : Log → Type 0
-  Path h = Reached (Careful b) begun h
+  abbrev Path : ℕ → Log → Type 0
+  Path c h = Reached (Careful b) begun c h
 
   abbrev Fine : After → Type 0
-  Fine o = Account (Careful b) k (leaving k o)
+  Fine o = Account (Careful b) k l (leaving k o) (o .log .list) (o .log .count)
 
-  pub selects : Path (writeIndex ep begun)
+  pub selects : Path 1 (writeIndex ep begun)
   selects = then none (one (index ep)) ((i, tt), inl tt)
 
-  finish : (c : ControlState) (g : Log) → Path g → Fine (after c (k .irq) g)
-  finish c g r = stores l g s r refl refl refl
+  finish : (c : ControlState) (g : Log) → Path 3 g → Fine (after c (k .irq) g)
+  finish c g r = stores l g s (within r 128 (lit≤ tt)) refl refl refl
 
-  ends : (c : ControlState) (g : Log) → Path g → Fine (ended c (k .irq) g)
+  ends : (c : ControlState) (g : Log) → Path 2 g → Fine (ended c (k .irq) g)
   unfolding ended
   ends c g r = finish c _ (zero-modifies r csr0l.DataEnd)
 
-  set-up : (x : List ℕ) (c : ControlState) (g : Log) → Path g → Fine (setUp x c (k .irq) g)
+  set-up : (x : List ℕ) (c : ControlState) (g : Log) → Path 2 g → Fine (setUp x c (k .irq) g)
   unfolding setUp
-  set-up x c g r = by-test Fine (eqb (wLength x) 0) (ends _ g r) (finish _ g r)
+  set-up x c g r = by-test Fine (eqb (wLength x) 0) (ends _ g r) (finish _ g (within r 3 (lit≤ tt)))
 
-  out-data : (size : ℕ) (c : ControlState) (g : Log) → Path g → Fine (dataOut n size c (k .irq) g)
+  out-data : (size : ℕ) (c : ControlState) (g : Log) → Path 2 g → Fine (dataOut n size c (k .irq) g)
   unfolding dataOut
-  out-data size c g r = by-test Fine (ltb n size) (ends _ g r) (finish c g r)
+  out-data size c g r = by-test Fine (ltb n size) (ends _ g r) (finish c g (within r 3 (lit≤ tt)))
 
-  at-zero : (t : ControlStateEnum) (x : List ℕ) (size : ℕ) (c : ControlState) (g : Log) → Path g → Fine (zeroBy t x n size c (k .irq) g)
+  at-zero : (t : ControlStateEnum) (x : List ℕ) (size : ℕ) (c : ControlState) (g : Log) → Path 2 g → Fine (zeroBy t x n size c (k .irq) g)
   at-zero Setup x size c g r = set-up x c g r
   at-zero DataOut x size c g r = out-data size c g r
-  at-zero Idle x size c g r = finish c g r
-  at-zero DataIn x size c g r = finish c g r
-  at-zero Accepted x size c g r = finish c g r
-  at-zero NodataPhase x size c g r = finish c g r
+  at-zero Idle x size c g r = finish c g (within r 3 (lit≤ tt))
+  at-zero DataIn x size c g r = finish c g (within r 3 (lit≤ tt))
+  at-zero Accepted x size c g r = finish c g (within r 3 (lit≤ tt))
+  at-zero NodataPhase x size c g r = finish c g (within r 3 (lit≤ tt))
 
   -- endpoint 0's packet is not one of 1 to 5
   pub gets-zero : (x : List ℕ) (size : ℕ) → Fine (readZero x n size (k .«control_state») (k .irq) (writeIndex ep begun))
   unfolding readZero
   gets-zero x size = at-zero (k .«control_state» .state) x size (k .«control_state») _ (zero-modifies selects csr0l.ServicedRxPktRdy)
 
-  gets : (x : List ℕ) (size : ℕ) → Account (Gentle b) k (leaving k (got ep x n size (k .«control_state») (k .irq) (writeIndex ep begun)))
+  abbrev Gained : After → Type 0
+  Gained o = Account (Gentle b) k l (leaving k o) (o .log .list) (o .log .count)
+
+  gets : (x : List ℕ) (size : ℕ) → Gained (got ep x n size (k .«control_state») (k .irq) (writeIndex ep begun))
   unfolding got readOther
   gets x size =
-      by-test (λ (o : After). Account (Gentle b) k (leaving k o)) (eqb ep 0) (gentle (gets-zero x size))
-      (stores l _ s (rx-modifies selects rxcsrl.NoRxPktRdy) refl refl refl)
+      by-test Gained (eqb ep 0) (gentle (gets-zero x size))
+      (stores l _ s (within (rx-modifies selects rxcsrl.NoRxPktRdy) 128 (lit≤ tt)) refl refl refl)
 
 module _ (k : Record) (ep : ℕ) (b f l : List ℕ) where
   -- the tests, one beside the other
@@ -85,19 +87,24 @@ module _ (k : Record) (ep : ℕ) (b f l : List ℕ) where
       testsBy (admissionBy (short k (length f) (length l)) (recordSound k) (leb (endpointsOf k) ep))
       (ownTests (unready k ep) (notReadable k ep) (notSetup k ep (length b)))
 
+  abbrev Accounted : ReadOutcome → Type 0
+  Accounted o = Account (Gentle (k .regs .board)) k l (o .result .«record») (o .list) (o .result .stores)
+
   -- by the row of the reply that is given
-  by-row : {m : ℕ} → Given k ep (length b) (length f) (length l) m → Account (Gentle (k .regs .board)) k (tested k ep b f l tests .result .«record»)
+  by-row : {m : ℕ} → Given k ep (length b) (length f) (length l) m → Accounted (tested k ep b f l tests)
   unfolding taken blocked
-  by-row (granted a s t u) = rw (a .lent, a .passes, a .there, s, t, u) (gets k ep _ l (a .passes) (there k ep (a .there)) _ (rxSize k))
+  by-row (granted a s t u) = rw (a .lent, a .passes, a .there, s, t, u) (gets k ep _ l (lent-passes k f l (a .passes) (a .lent)) (there k ep (a .there)) _ (rxSize k))
   by-row (blocks a s) =
-      rw (a .lent, a .passes, a .there, s) (stores l _ (a .passes) (careful-gentle (selects k ep 0 l (a .passes) (there k ep (a .there)))) refl refl refl)
+      let p = lent-passes k f l (a .passes) (a .lent) in
+      rw (a .lent, a .passes, a .there, s)
+      (stores l _ p (within (careful-gentle (selects k ep 0 l p (there k ep (a .there)))) 128 (lit≤ tt)) refl refl refl)
   by-row (beyond p q r) = rw (p, q, r) (left refl refl)
   by-row (unreadable a s t) = rw (a .lent, a .passes, a .there, s, t) (left refl refl)
   by-row (unset a s t u) = rw (a .lent, a .passes, a .there, s, t, u) (left refl refl)
   by-row (little p) = rw p (left refl refl)
   by-row (unsound p q) = rw (p, q) (left refl refl)
 
-  pub read : Account (Gentle (k .regs .board)) k (readCall k ep b f l .result .«record»)
+  pub read : Accounted (readCall k ep b f l)
   read =
-      subst (λ (o : ReadOutcome). Account (Gentle (k .regs .board)) k (o .result .«record»))
+      subst Accounted
       (sym (by-tests k ep b f l ∙ ap (tested k ep b f l) (told k ep (length b) (length f) (length l)))) (by-row (exactly k ep b f l _ .0 refl))

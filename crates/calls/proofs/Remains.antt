@@ -6,7 +6,7 @@ use mathlib.Core.List.{List}
 use mathlib.Core.Logic.{_⊎_, inl, inr}
 use native.Mathlib.Nat.{le-trans}
 use borrow.Author.Tests.{eqb-true, ne-eqb}
-use lib.Dec.{eqb}
+use lib.Dec.{eqb, lit≤}
 use lib.ListN.{length, getD}
 use Rattle.laws.proofs.Tests.{and-zero, and-one, or-zero}
 use Rattle.board.specs.Boards.{rows, at-most-six}
@@ -38,8 +38,8 @@ use Rattle.calls.specs.Calls.{reset, read, setStalled, outcome, step}
 use Rattle.calls.specs.Kept.{Remain}
 use Rattle.calls.proofs.Packets.{Left, apart, told-by}
 use Rattle.calls.proofs.Dropping.{stall-leaves, read-leaves, goneBelow, all-leave, below}
-use Rattle.calls.proofs.Steps.{Careful, within-six, same-ready}
-use Rattle.calls.proofs.Accounts.{Account, stores, there}
+use Rattle.calls.proofs.Steps.{Careful, within as reaches, within-six, same-ready}
+use Rattle.calls.proofs.Accounts.{Account, Passes, lent-passes, stores, there}
 use Rattle.calls.proofs.Reading.{tests, selects, gets-zero}
 use Rattle.calls.proofs.Happening.{Happens, refused, happened, cleared-side}
 use Rattle.calls.proofs.Kept.{to-holds, Interrupts, refused as not-taken, taken as was-taken, on-interrupt}
@@ -70,15 +70,14 @@ module _ (k : Record) where
 
   module _ (six : Whole (k .regs .words)) where
     -- a call that stores to RXCSRL at most to repair an overrun
-    pub careful-remain : {q : Record} → Account (Careful (k .regs .board)) k q → Remain none k q
-    careful-remain {q} a = go (a .served)
+    pub careful-remain : {l m : List ℕ} {q : Record} {n : ℕ} → Account (Careful (k .regs .board)) k l q m n → Remain none k q
+    careful-remain {l = l} {q = q} {n = n} a = go (a .served)
       where
-        go : (q .regs .words ≡ k .regs .words) ⊎ (recordSound k ≡ true) → Remain none k q
-        go (inl p) = unmoved p
+        go : ((q .regs .words ≡ k .regs .words) × (n ≡ 0)) ⊎ Passes k l → Remain none k q
+        go (inl p) = unmoved (p .0)
         go (inr s) = record {
           ready = λ e n.
-              ap (λ (r : File). sideAt r e Out .ready) (a .is)
-              ∙ same-ready (a .path) (to-holds k (record-is-sound k s) six) e n
+              same-ready (a .path) (to-holds k (record-is-sound k (s .0)) six) e n
               ∙ sym (and-one (sideAt (k .regs .words) e Out .ready));
         }
 
@@ -145,7 +144,7 @@ module _ (k : Record) where
 
     -- a read drops the packet that it reads
     module _ (i : ℕ) (b f l : List ℕ) where
-      gets-remain : (n : ℕ) (x : List ℕ) (size : ℕ) → recordSound k ≡ true → i < length (rows (k .regs .board))
+      gets-remain : (n : ℕ) (x : List ℕ) (size : ℕ) → Passes k l → i < length (rows (k .regs .board))
           → Remain (λ e. eqb e i) k (leaving k (got i x n size (k .«control_state») (k .irq) (writeIndex i (begun k l))))
       unfolding got readOther
       gets-remain n x size s h = go (eqb i 0) refl
@@ -158,15 +157,16 @@ module _ (k : Record) where
               let z = eqb-true i 0 p in
               by (λ e m. sym (ne-eqb e i (λ q. m (q ∙ z)))) (careful-remain (gets-zero k i n l s h x size))
           go false p =
-              let q = apart (index i) (begun k l) tt (le-trans h (at-most-six (k .regs .board))) (start l s .1) in
+              let q = apart (index i) (begun k l) tt (le-trans h (at-most-six (k .regs .board))) (start l (s .0) .1) in
               record { ready = told-by (λ e m. or-zero (eqb e i)) (read-leaves i (writeIndex i (begun k l)) q) .ready }
 
       by-row : {m : ℕ} → Given k i (length b) (length f) (length l) m → Remain (λ e. eqb m 0 && eqb e i) k (tested k i b f l (tests k i b f l) .result .«record»)
       unfolding taken blocked
-      by-row (granted a s t u) = rw (a .lent, a .passes, a .there, s, t, u) (gets-remain _ _ (rxSize k) (a .passes) (there k i (a .there)))
+      by-row (granted a s t u) = rw (a .lent, a .passes, a .there, s, t, u) (gets-remain _ _ (rxSize k) (lent-passes k f l (a .passes) (a .lent)) (there k i (a .there)))
       by-row (blocks a s) =
+          let p = lent-passes k f l (a .passes) (a .lent) in
           rw (a .lent, a .passes, a .there, s)
-          (careful-remain (stores l _ (a .passes) (selects k i 0 l (a .passes) (there k i (a .there))) refl refl refl))
+          (careful-remain (stores l _ p (reaches (selects k i 0 l p (there k i (a .there))) 128 (lit≤ tt)) refl refl refl))
       by-row (too-high p q r) = rw (p, q, r) (unmoved refl)
       by-row (unreadable a s t) = rw (a .lent, a .passes, a .there, s, t) (unmoved refl)
       by-row (unset a s t u) = rw (a .lent, a .passes, a .there, s, t, u) (unmoved refl)

@@ -1,7 +1,7 @@
 -- The stores of a call, step by step, and what follows for the registers whatever the call: the account of a call says once which steps it
 -- makes, and every law about what calls keep is one induction over such accounts.
 -- Assumes nothing.
-use Prim.Native.Nat.{ℕ, _<_, _≤_}
+use Prim.Native.Nat.{ℕ, _+_, _<_, _≤_}
 use mathlib.Core.Path.{_≡_, refl, sym, ap, _∙_}
 use mathlib.Core.Bool.{Bool, true, false, cond}
 use native.Mathlib.Nat.{le-trans}
@@ -39,14 +39,21 @@ abbrev pub makes : Step → Log → Log
 makes (one o) g = does o g
 makes (sent n o) g = does o (does (packet n) g)
 
--- h is g after some steps, each of which was allowed where it was made
-pub data Reached (May : Step → Log → Type 0) (g : Log) : Log → Type 0 where
-  none : Reached May g g
-  then : {h : Log} → Reached May g h → (s : Step) → May s h → Reached May g (makes s h)
+-- at most so many stores: an empty packet is none
+abbrev pub most : Step → ℕ
+most (one o) = 1
+most (sent n o) = 2
 
-pub weaken : {May Might : Step → Log → Type 0} {g h : Log} → ((s : Step) (x : Log) → May s x → Might s x) → Reached May g h → Reached Might g h
+-- h is g after some steps, each of which was allowed where it was made, and no more than c stores
+pub data Reached (May : Step → Log → Type 0) (g : Log) : ℕ → Log → Type 0 where
+  none : Reached May g 0 g
+  then : {h : Log} {c : ℕ} → Reached May g c h → (s : Step) → May s h → Reached May g (c + most s) (makes s h)
+  within : {h : Log} {c : ℕ} → Reached May g c h → (d : ℕ) → c ≤ d → Reached May g d h
+
+pub weaken : {May Might : Step → Log → Type 0} {g h : Log} {c : ℕ} → ((s : Step) (x : Log) → May s x → Might s x) → Reached May g c h → Reached Might g c h
 weaken f none = none
 weaken f (then r s m) = then (weaken f r) s (f s _ m)
+weaken f (within r d i) = within (weaken f r) d i
 
 -- what is asked of a store for reply 16's sake: a selection of the board's, an address, and no packet without its ready bit
 abbrev pub Proper : Board → Store → Type 0
@@ -85,7 +92,7 @@ SameStalls (sent n o) g = SameStall o (does (packet n) g .regs)
 abbrev pub Gentle : Board → Step → Log → Type 0
 Gentle b s g = Sane b s g × SameStalls s g
 
-pub gentle-sane : {b : Board} {g h : Log} → Reached (Gentle b) g h → Reached (Sane b) g h
+pub gentle-sane : {b : Board} {g h : Log} {c : ℕ} → Reached (Gentle b) g c h → Reached (Sane b) g c h
 gentle-sane r = weaken (λ s x m. m .0) r
 
 -- and no packet that waits to be read at 1 to 5 is dropped
@@ -96,7 +103,7 @@ Sparing (sent n o) g = Apart o
 abbrev pub Careful : Board → Step → Log → Type 0
 Careful b s g = Gentle b s g × Sparing s g
 
-pub careful-gentle : {b : Board} {g h : Log} → Reached (Careful b) g h → Reached (Gentle b) g h
+pub careful-gentle : {b : Board} {g h : Log} {c : ℕ} → Reached (Careful b) g c h → Reached (Gentle b) g c h
 careful-gentle r = weaken (λ s x m. m .0) r
 
 -- the parts of the registers that any step keeps: the pending interrupts, and that there are 46 numbers
@@ -110,10 +117,11 @@ same-one o g k =
     let t = rest o g (k .six) in
     record { usb = t .usb ∙ k .usb; intr = λ d. t .intr d ∙ k .intr d; six = t .whole ∙ k .six }
 
-pub keeps : {May : Step → Log → Type 0} {g h : Log} → Whole (g .regs) → Reached May g h → Same (g .regs) (h .regs)
+pub keeps : {May : Step → Log → Type 0} {g h : Log} {c : ℕ} → Whole (g .regs) → Reached May g c h → Same (g .regs) (h .regs)
 keeps six none = record { usb = refl; intr = λ d. refl; six = six }
 keeps six (then {h} r (one o) m) = same-one o h (keeps six r)
 keeps six (then {h} r (sent n o) m) = same-one o (does (packet n) h) (same-one (packet n) h (keeps six r))
+keeps six (within r c i) = keeps six r
 
 -- reply 16's register part, for a board, of a file of 46 numbers
 pub record Standing (b : Board) (r : File) : Type 0 where
@@ -263,13 +271,14 @@ module _ {b : Board} (n : ℕ) (o : Store) (g : Log) (m : Sends b n o g) (k : Ho
           by (yes p) = ready-here e p
           by (no q) = elsewhere e In (packet-other n _ e _ q)
 
-pub holds : {b : Board} {g h : Log} → Reached (Sane b) g h → Holds b (g .regs) → Holds b (h .regs)
+pub holds : {b : Board} {g h : Log} {c : ℕ} → Reached (Sane b) g c h → Holds b (g .regs) → Holds b (h .regs)
 holds none k = k
 holds (then {h} r (one o) m) k = holds-one o h m (holds r k)
 holds (then {h} r (sent n o) m) k = holds-sent n o h m (holds r k)
+holds (within r c i) k = holds r k
 
 -- SendStall of endpoints 1 to 5
-pub same-halts : {b : Board} {g h : Log} → Reached (Gentle b) g h → Holds b (g .regs) → SameHalts (g .regs) (h .regs)
+pub same-halts : {b : Board} {g h : Log} {c : ℕ} → Reached (Gentle b) g c h → Holds b (g .regs) → SameHalts (g .regs) (h .regs)
 same-halts none k e d n = refl
 same-halts (then {h} r (one o) m) k e d n =
     let t = holds (gentle-sane r) k .standing in
@@ -280,12 +289,13 @@ same-halts (then {h} r (sent x o) m) k e d n =
     halts o (does (packet x) h) (u .six) (within-six u) (m .1) e d n
     ∙ halts (packet x) h (t .standing .six) (within-six (t .standing)) tt e d n
     ∙ same-halts r k e d n
+same-halts (within r c i) k e d n = same-halts r k e d n
 
 -- RxPktRdy of endpoints 1 to 5
 abbrev pub SameReady : File → File → Type 0
 SameReady r q = (e : ℕ) → (e ≡ 0 → ⊥) → sideAt q e Out .ready ≡ sideAt r e Out .ready
 
-pub same-ready : {b : Board} {g h : Log} → Reached (Careful b) g h → Holds b (g .regs) → SameReady (g .regs) (h .regs)
+pub same-ready : {b : Board} {g h : Log} {c : ℕ} → Reached (Careful b) g c h → Holds b (g .regs) → SameReady (g .regs) (h .regs)
 same-ready none k e n = refl
 same-ready (then {h} r (one o) m) k e n =
     let t = holds (gentle-sane (careful-gentle r)) k in
@@ -300,3 +310,4 @@ same-ready (then {h} r (sent x o) m) k e n =
     ∙ ap (λ (s : Side). s .ready) (sides (packet x) h e Out (t .standing .six) (within-six (t .standing)))
     ∙ leaves-apart (packet x) (file.index (h .regs)) e (sideAt (h .regs) e Out) n tt
     ∙ same-ready r k e n
+same-ready (within r c i) k e n = same-ready r k e n

@@ -5,7 +5,7 @@ use mathlib.Core.Bool.{Bool, true, false, not, _&&_, cond}
 use mathlib.Core.List.{List}
 use mathlib.Core.Logic.{inl, inr}
 use borrow.Author.Tests.{eq-eqb, eqb-true, ltb-false}
-use lib.Dec.{eqb, ltb, leb}
+use lib.Dec.{eqb, ltb, leb, lit≤}
 use lib.ListN.{length}
 use Rattle.laws.proofs.Words.{raised-lt}
 use Rattle.board.specs.declared.Board.{Board}
@@ -41,8 +41,8 @@ use Rattle.transfer_rules.proofs.WriteVerdicts.{tests-are}
 use Rattle.transfer_rules.proofs.WriteAnswers.{call-is, exactly}
 use Rattle.laws.proofs.Tests.{clash}
 use Rattle.calls.proofs.Steps as steps
-use Rattle.calls.proofs.Steps.{Reached, none, then, one, Careful, Readies}
-use Rattle.calls.proofs.Accounts.{Low, Account, left, stores, by-test, txModify, zeroModify, zero-modifies, there}
+use Rattle.calls.proofs.Steps.{Reached, none, then, within, one, Careful, Readies}
+use Rattle.calls.proofs.Accounts.{Low, Account, Passes, lent-passes, left, stores, by-test, txModify, zeroModify, zero-modifies, there}
 
 -- TxPktRdy is set
 tx-readies : (h : Log) → eqb (file.index (h .regs)) 0 ≡ false → Readies (txModify txcsrl.TxPktRdy h) (h .regs)
@@ -54,7 +54,7 @@ zero-readies h p = at (file.index (h .regs)) p
     at : (i : ℕ) → i ≡ 0 → leaves (zeroModify csr0l.TxPktRdy h) i i In (sideAt (h .regs) i In) .ready ≡ true
     at i z = rw z (ap (λ (s : Side). s .ready) (zero-readied (h .regs)))
 
-module _ (k : Record) (ep n : ℕ) (l : List ℕ) (s : recordSound k ≡ true) (i : ep < length (rows (k .regs .board))) (six : Whole (k .regs .words)) where
+module _ (k : Record) (ep n : ℕ) (l : List ℕ) (s : Passes k l) (i : ep < length (rows (k .regs .board))) (six : Whole (k .regs .words)) where
   abbrev b : Board
   b = k .regs .board
 
@@ -64,13 +64,13 @@ module _ (k : Record) (ep n : ℕ) (l : List ℕ) (s : recordSound k ≡ true) (
   abbrev chose : Log
   chose = writeIndex ep begun
 
-  abbrev Path : Log → Type 0
-  Path h = Reached (Careful b) begun h
+  abbrev Path : ℕ → Log → Type 0
+  Path c h = Reached (Careful b) begun c h
 
   abbrev Fine : After → Type 0
-  Fine o = Account (Careful b) k (leaving k o)
+  Fine o = Account (Careful b) k l (leaving k o) (o .log .list) (o .log .count)
 
-  selects : Path chose
+  selects : Path 1 chose
   selects = then none (one (index ep)) ((i, tt), inl tt)
 
   -- the endpoint is selected, also once the packet stands in its area
@@ -85,36 +85,36 @@ module _ (k : Record) (ep n : ℕ) (l : List ℕ) (s : recordSound k ≡ true) (
     unfolding areaIn
     room = rw chosen-at fits
 
-    other-path : eqb ep 0 ≡ false → Path (modifyTxcsrl txcsrl.TxPktRdy (loaded ep n begun))
+    other-path : eqb ep 0 ≡ false → Path 3 (modifyTxcsrl txcsrl.TxPktRdy (loaded ep n begun))
     unfolding loaded
     other-path z =
         rw (modify-txcsrl txcsrl.TxPktRdy (does (packet n) chose))
         (then selects (steps.sent n (txModify txcsrl.TxPktRdy (does (packet n) chose)))
         ((record { fits = room; proper = tt; readies = tx-readies (does (packet n) chose) (rw chosen-is z) }, tx-modified txcsrl.TxPktRdy (does (packet n) chose .regs)), tt))
 
-    zero-path : ep ≡ 0 → Path (modifyCsr0l csr0l.TxPktRdy (loaded ep n begun))
+    zero-path : ep ≡ 0 → Path 3 (modifyCsr0l csr0l.TxPktRdy (loaded ep n begun))
     unfolding loaded
     zero-path z =
         rw (modify-csr0l csr0l.TxPktRdy (does (packet n) chose))
         (then selects (steps.sent n (zeroModify csr0l.TxPktRdy (does (packet n) chose)))
         ((record { fits = room; proper = tt; readies = zero-readies (does (packet n) chose) (chosen-is ∙ z) }, tt), tt))
 
-  empty-path : n ≡ 0 → Path (loaded ep n begun)
+  empty-path : n ≡ 0 → Path 3 (loaded ep n begun)
   unfolding loaded
-  empty-path z = then selects (one (packet n)) ((z, tt), inl tt)
+  empty-path z = within (then selects (one (packet n)) ((z, tt), inl tt)) 3 (lit≤ tt)
 
-  finish : (c : ControlState) (f : Flags) (g : Log) → Path g → (Low b (k .irq) → Low b f) → Fine (after c f g)
-  finish c f g r low = record { list = l; last = g; path = r; is = refl; board = refl; served = inr s; flags = low }
+  finish : (c : ControlState) (f : Flags) (g : Log) {m : ℕ} → m ≤ 128 → Path m g → (Low b (k .irq) → Low b f) → Fine (after c f g)
+  finish c f g i r low = record { path = within r 128 i; board = refl; served = inr s; flags = low }
 
-  ends : (c : ControlState) (g : Log) → Path g → Fine (ended c (k .irq) g)
+  ends : (c : ControlState) (g : Log) → Path 3 g → Fine (ended c (k .irq) g)
   unfolding ended
-  ends c g r = finish c (k .irq) _ (zero-modifies r csr0l.DataEnd) (λ f. f)
+  ends c g r = finish c (k .irq) _ {m = 4} (lit≤ tt) (zero-modifies r csr0l.DataEnd) (λ f. f)
 
-  in-data : (t : ℕ) (g : Log) → Path g → Fine (dataIn n t (k .«control_state») (k .irq) g)
+  in-data : (t : ℕ) (g : Log) → Path 3 g → Fine (dataIn n t (k .«control_state») (k .irq) g)
   unfolding dataIn
   in-data t g r =
       let c = decreased (k .«control_state») n in
-      by-test Fine (eqb (c .«tx_len») 0) (ends _ g r) (by-test Fine (ltb n t) (ends _ g r) (finish c (k .irq) g r (λ f. f)))
+      by-test Fine (eqb (c .«tx_len») 0) (ends _ g r) (by-test Fine (ltb n t) (ends _ g r) (finish c (k .irq) g {m = 3} (lit≤ tt) r (λ f. f)))
 
   empty : not (eqb n 0) ≡ false → n ≡ 0
   empty e = go (eqb n 0) refl e
@@ -127,9 +127,9 @@ module _ (k : Record) (ep n : ℕ) (l : List ℕ) (s : recordSound k ≡ true) (
   at-zero : (t : ℕ) (s : ControlStateEnum) → ep ≡ 0 → n ≤ areaIn b ep In .size → untakenIn s n ≡ false
       → Fine (sentZero s n t (k .«control_state») (k .irq) (loaded ep n begun))
   unfolding sentDataIn nodataPhase accepted
-  at-zero t NodataPhase z h w = finish _ _ _ (empty-path (empty w)) (λ f. (raised-lt _ _ 0 (f .0) (at-least-one b), f .1))
+  at-zero t NodataPhase z h w = finish _ _ _ {m = 3} (lit≤ tt) (empty-path (empty w)) (λ f. (raised-lt _ _ 0 (f .0) (at-least-one b), f .1))
   at-zero t DataIn z h w = in-data t _ (zero-path h z)
-  at-zero t Idle z h w = finish _ (k .irq) _ (empty-path (empty w)) (λ f. f)
+  at-zero t Idle z h w = finish _ (k .irq) _ {m = 3} (lit≤ tt) (empty-path (empty w)) (λ f. f)
   at-zero t Setup z h w = clash w
   at-zero t DataOut z h w = clash w
   at-zero t Accepted z h w = clash w
@@ -142,7 +142,7 @@ module _ (k : Record) (ep n : ℕ) (l : List ℕ) (s : recordSound k ≡ true) (
           → Fine (cond z (sentZero (k .«control_state» .state) n t (k .«control_state») (k .irq) (loaded ep n begun))
           (sentOther (k .«control_state») (k .irq) (loaded ep n begun)))
       go true p u = at-zero t (k .«control_state» .state) (eqb-true ep 0 p) h u
-      go false p u = finish (k .«control_state») (k .irq) _ (other-path h p) (λ f. f)
+      go false p u = finish (k .«control_state») (k .irq) _ {m = 3} (lit≤ tt) (other-path h p) (λ f. f)
 
 module _ (k : Record) (ep : ℕ) (b f l : List ℕ) (six : Whole (k .regs .words)) where
   not-long : tooLong k ep (length b) ≡ false → length b ≤ areaIn (k .regs .board) ep In .size
@@ -158,19 +158,23 @@ module _ (k : Record) (ep : ℕ) (b f l : List ℕ) (six : Whole (k .regs .words
       testsBy (admissionBy (short k (length f) (length l)) (recordSound k) (leb (endpointsOf k) ep))
       (ownTests (unready k ep) (tooLong k ep (length b)) (notWritable k ep (length b)))
 
-  by-row : {m : ℕ} → Given k ep (length b) (length f) (length l) m → Account (Careful (k .regs .board)) k (by tested .result .«record»)
+  abbrev Accounted : WriteOutcome → Type 0
+  Accounted o = Account (Careful (k .regs .board)) k l (o .result .«record») (o .list) (o .result .stores)
+
+  by-row : {m : ℕ} → Given k ep (length b) (length f) (length l) m → Accounted (by tested)
   unfolding taken blocked
   by-row (granted a s t u) =
-      rw (a .lent, a .passes, a .there, s, t, u) (sends k ep (length b) l (a .passes) (there k ep (a .there)) six (txSize k) (not-long t) u)
+      rw (a .lent, a .passes, a .there, s, t, u) (sends k ep (length b) l (lent-passes k f l (a .passes) (a .lent)) (there k ep (a .there)) six (txSize k) (not-long t) u)
   by-row (blocks a s) =
-      rw (a .lent, a .passes, a .there, s) (stores l _ (a .passes) (selects k ep (length b) l (a .passes) (there k ep (a .there)) six) refl refl refl)
+      let p = lent-passes k f l (a .passes) (a .lent) in
+      rw (a .lent, a .passes, a .there, s) (stores l _ p (within (selects k ep (length b) l p (there k ep (a .there)) six) 128 (lit≤ tt)) refl refl refl)
   by-row (beyond p q r) = rw (p, q, r) (left refl refl)
   by-row (long a s t) = rw (a .lent, a .passes, a .there, s, t) (left refl refl)
   by-row (untaken a s t u) = rw (a .lent, a .passes, a .there, s, t, u) (left refl refl)
   by-row (little p) = rw p (left refl refl)
   by-row (unsound p q) = rw (p, q) (left refl refl)
 
-  pub write : Account (Careful (k .regs .board)) k (writeCall k ep b f l .result .«record»)
+  pub write : Accounted (writeCall k ep b f l)
   write =
-      subst (λ (o : WriteOutcome). Account (Careful (k .regs .board)) k (o .result .«record»))
+      subst Accounted
       (sym (call-is k ep b f l ∙ ap by (tests-are k ep (length b) (length f) (length l)))) (by-row (exactly k ep b f l _ .0 refl))
