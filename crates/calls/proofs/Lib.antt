@@ -10,6 +10,7 @@ pub mod Happening
 pub mod Kept
 pub mod Halts
 pub mod Remains
+pub mod Lengths
 pub mod Ends
 pub mod Demand
 pub mod Listed

@@ -41,7 +41,7 @@ module _ (k : Record) (e n m : ℕ) (clear : arrivalRefusal k e n m ≡ Clear) w
   unfolding arrivalRefusal arrivalRefusalIn needOf recordSound endpointsOf areaOf
   tests = passed (entryAt k e m) (ltb (areaOf k e Out .size) n) (sideAt (k .regs .words) e Out .ready) clear
 
-  none-waited : waiting k e ≡ false
+  pub none-waited : waiting k e ≡ false
   none-waited = tests .1
 
   pub there : e < 6

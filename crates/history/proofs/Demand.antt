@@ -21,12 +21,12 @@ use Rattle.record.proofs.Passing.{sound-record-passes}
 use Rattle.calls.specs.Calls.{Op, step}
 use Rattle.calls.proofs.Kept.{good-fresh, good-step, same-board}
 use Rattle.rounds.specs.Machine.{isAnsweredPoll, isInterrupt, takesSuspend, arrivesAt, after}
-use Rattle.rounds.specs.Sentences.{RoundAfter, Sentences, UntilTaken, StillThere, NotEmpty}
+use Rattle.rounds.specs.Sentences.{RoundAfter, Sentences, UntilTaken, StillThere, SameLength, StillAsLong, NotEmpty}
 use Rattle.rounds.proofs.Counts.{count-at-most}
 use Rattle.rounds.specs.Laws.{Lawful}
 use Rattle.rounds.proofs.Lawful.{good-after}
 use Rattle.rounds.proofs.Third.{round-after}
-use Rattle.rounds.proofs.Taken.{still-there as unless-taken}
+use Rattle.rounds.proofs.Taken.{still-there as unless-taken, still-as-long as long-unless-taken}
 use Rattle.rounds.proofs.Sentences.{sentences}
 use Rattle.history.specs.Driver.{event, takes, driver, calls}
 use Rattle.history.proofs.Look.{look, Kept}
@@ -35,6 +35,7 @@ use Rattle.history.proofs.Arrivals.{arrival-answered}
 use Rattle.history.proofs.Interrupts.{interrupt-answered}
 use Rattle.history.proofs.Steps.{does, one-place}
 use Rattle.history.proofs.Packets.{high, counted, none-waits, lasts, calls-take}
+use Rattle.history.proofs.Lengths.{arrives-long, stays-long}
 use Rattle.history.proofs.Fetching.{read-answered}
 
 -- the customer's "1 to 5": the display's highest endpoint
@@ -87,10 +88,22 @@ module _ (b : Board) where
   pub still-there : StillThere (driver b)
   still-there = unless-taken until-taken
 
+  -- and is as long as it was
+  pub same-length : SameLength (driver b)
+  same-length =
+      record {
+        arrived = λ e ep h o. arrives-long b (after (driver b) h) (good-after lawful h) e ep o;
+        waits = λ e ep h o. stays-long b (after (driver b) h) (good-after lawful h) e ep o;
+      }
+
+  pub still-as-long : StillAsLong (driver b)
+  still-as-long = long-unless-taken until-taken same-length
+
   pub not-empty : NotEmpty (driver b) (calls b)
   not-empty =
       record {
         untilTaken = until-taken;
+        sameLength = same-length;
         good = λ h. passes h;
         polled = λ h o q.
             let k = after (driver b) h in

@@ -7,6 +7,7 @@ pub mod Interrupts
 pub mod Calm
 pub mod Steps
 pub mod Packets
+pub mod Lengths
 pub mod Fetching
 pub mod Demand
 pub mod Sample

@@ -35,7 +35,7 @@ use Rattle.calls.specs.Calls.{Op, step}
 use Rattle.calls.specs.Calls as calls
 use Rattle.rounds.specs.Machine.{Event, quiet, Machine, isRound, isInterrupt, isAnsweredPoll, takesSuspend, arrivesAt, names, arrivesAbove, count, run, some, Stays, falseNamings, arrivalsAbove, endsInRound}
 use Rattle.rounds.specs.Sentences.{StillWaits, NextRound, ThreePolls}
-use Rattle.history.specs.Driver.{event, pollEvent, interruptEvent, arrivalEvent, waiting, takes, driver}
+use Rattle.history.specs.Driver.{event, pollEvent, interruptEvent, arrivalEvent, waiting, lengthAt, takes, brings, driver}
 use Rattle.history.proofs.Look.{Kept}
 use Rattle.history.proofs.Demand.{kept-fresh, kept-step}
 
@@ -177,7 +177,9 @@ sample = record {
   step = stepIn display true;
   event = eventIn display true;
   waiting = waiting;
+  length = lengthAt;
   takes = λ k o. takes k (op o);
+  brings = λ o. brings (op o);
 }
 
 abbrev pub M : Machine

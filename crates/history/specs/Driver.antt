@@ -85,6 +85,32 @@ event k (overrun e) = quiet
 abbrev pub waiting : Record → ℕ → Bool
 waiting k e = sideAt (k .regs .words) e Out .ready
 
+-- how long the packet is that waits there, and how many bytes an arrival carries
+abbrev pub lengthAt : Record → ℕ → ℕ
+lengthAt k e = sideAt (k .regs .words) e Out .len
+
+abbrev pub brings : Op → ℕ
+brings (arrival e b f) = length b
+brings (allocEp q w) = 0
+brings (busInit l) = 0
+brings (enable l) = 0
+brings (reset l) = 0
+brings (setDeviceAddress a l) = 0
+brings (write e b f l) = 0
+brings (read e b f l) = 0
+brings (setStalled e d s l) = 0
+brings (isStalled e d l) = 0
+brings (poll l) = 0
+brings onInterrupt = 0
+brings forceReset = 0
+brings (collection e f) = 0
+brings busReset = 0
+brings suspend = 0
+brings resume = 0
+brings setupEnd = 0
+brings (underrun e) = 0
+brings (overrun e) = 0
+
 -- The operations that take what waits at e, when they are answered: a read at e; stalling or unstalling e out, for "the source's `write`
 -- also drops a waiting packet at 1 to 5"; and the reset call where e is used to receive, for it enables e anew, and so writes RXCSRL from
 -- zeros too. Nothing else does: no poll, no interrupt, no write, no event of the host.
@@ -125,7 +151,9 @@ driver b = record {
   step = step;
   event = event;
   waiting = waiting;
+  length = lengthAt;
   takes = takes;
+  brings = brings;
 }
 
 -- That the sentences are not empty: which calls must be answered.

@@ -14,19 +14,19 @@ M = display honest
 abbrev one-read : List Op
 one-read = irq ∷ take 1 ∷ poll ∷ []
 
-waits : StillWaits M 5 (arrive 1 ∷ []) (arrive 5) one-read poll
+waits : StillWaits M 5 (arrive 1 8 ∷ []) (arrive 5 8) one-read poll
 waits = record { arrived = tt; still = (tt, (tt, (tt, tt))); taken = tt; polled = tt }
 
-named-5 : names 5 (M .event (after M (arrive 1 ∷ arrive 5 ∷ one-read)) poll) ≡ true
+named-5 : names 5 (M .event (after M (arrive 1 8 ∷ arrive 5 8 ∷ one-read)) poll) ≡ true
 named-5 = refl
 
-not-named-1 : names 1 (M .event (after M (arrive 1 ∷ arrive 5 ∷ one-read)) poll) ≡ false
+not-named-1 : names 1 (M .event (after M (arrive 1 8 ∷ arrive 5 8 ∷ one-read)) poll) ≡ false
 not-named-1 = refl
 
 -- 2. Packets at 1, 2 and 5, all read: a round clears one flag, the highest, so 1 is named twice with nothing waiting, and two
 -- packets arrived above it: the bound is reached.
 abbrev all-read : List Op
-all-read = arrive 1 ∷ arrive 2 ∷ arrive 5 ∷ irq ∷ take 1 ∷ take 2 ∷ take 5 ∷ poll ∷ poll ∷ poll ∷ []
+all-read = arrive 1 8 ∷ arrive 2 8 ∷ arrive 5 8 ∷ irq ∷ take 1 ∷ take 2 ∷ take 5 ∷ poll ∷ poll ∷ poll ∷ []
 
 bound-reached : (falseNamings M 1 (M .fresh) all-read ≡ 2) × (arrivalsAbove M 1 (M .fresh) all-read ≡ 2)
 bound-reached = (refl, refl)
@@ -59,7 +59,7 @@ second-is-none = refl
 
 -- The premises are needed. With no interrupt taken a waiting packet is not named; with suspend taken no poll is a round; and a third
 -- poll after further interrupts need not be one.
-not-taken : names 1 (M .event (after M (arrive 1 ∷ [])) poll) ≡ false
+not-taken : names 1 (M .event (after M (arrive 1 8 ∷ [])) poll) ≡ false
 not-taken = refl
 
 asleep : isRound (M .event (after M (raise (record { reset = false; resume = false; suspend = true }) ∷ irq ∷ poll ∷ poll ∷ [])) poll) ≡ false

@@ -1,6 +1,6 @@
--- The small machine is lawful with the honest poll, so all four sentences can be kept, and what arrives waits until it is taken. It is
--- lawful too where its poll or its interrupt throws every packet away, and with a poll that refuses always, so the four say little without
--- `NotEmpty`. With the Suspend step mended the last sentence needs no excuse, and one poll more.
+-- The small machine is lawful with the honest poll, so all four sentences can be kept, and what arrives waits as it came until it is taken. It
+-- is lawful too where its poll or its interrupt throws every packet away, where its poll leaves no byte of one, and with a poll that refuses
+-- always, so the four say little without `NotEmpty`. With the Suspend step mended the last sentence needs no excuse, and one poll more.
 -- Assumes nothing.
 use mathlib.Core.Path.{_≡_, refl, sym, ap, subst, _∙_}
 use mathlib.Core.Bool.{Bool, true, false, not, cond, true≢false, _&&_, _||_}
@@ -10,9 +10,9 @@ use native.Mathlib.Decide.{ℕ-discrete}
 use lib.Dec.{T, T-not, not-T, leb, le→leb, eqb, eqb→eq, eqb-refl}
 use borrow.Author.Tests.{eq-eqb, ne-eqb}
 use Rattle.rounds.specs.Machine.{Event, arrival, interrupt, round, quiet, count, arrivesAt, isAnsweredPoll, isInterrupt, takesSuspend, after}
-use Rattle.rounds.specs.Sentences.{Sentences, RoundAfter, UntilTaken, NotEmpty}
+use Rattle.rounds.specs.Sentences.{Sentences, RoundAfter, UntilTaken, SameLength, NotEmpty}
 use Rattle.rounds.specs.Laws.{Look, Quiet, PutDown, Rounds, Pauses, Does, Lawful}
-use Rattle.rounds.specs.Shams.{Bus, State, Op, arrive, collect, take, raise, irq, poll, Polled, none, calm, bothBus, arrived, taken, thrown, withFlags, withBus, accepts, step, event, takes, machine, small, calls, inOrder, inMendedOrder, walked, honest, mended, throwsAway, throwsTaken, refuses}
+use Rattle.rounds.specs.Shams.{Bus, State, Op, arrive, collect, take, raise, irq, poll, Polled, none, calm, bothBus, arrived, taken, thrown, hollowed, withFlags, withBus, brings, accepts, step, event, takes, machine, small, calls, inOrder, inMendedOrder, walked, honest, mended, throwsAway, throwsTaken, emptiesWaiting, refuses}
 use Rattle.rounds.proofs.Counts.{count-at-most}
 use Rattle.rounds.proofs.Tests.{and-right, and-both, and-true, is-down}
 use Rattle.rounds.proofs.Lawful.{unchanged}
@@ -72,6 +72,9 @@ same s = record { flag = refl; due = refl; sent = refl; bus = refl }
 throws : (s : State) → Alike s (thrown s)
 throws s = record { flag = refl; due = refl; sent = refl; bus = refl }
 
+hollows : (s : State) → Alike s (hollowed s)
+hollows s = record { flag = refl; due = refl; sent = refl; bus = refl }
+
 at : {a b : ℕ → Bool} → a ≡ b → (j : ℕ) → a j ≡ b j
 at p j = ap (λ (w : ℕ → Bool). w j) p
 
@@ -91,10 +94,10 @@ module _ (B : Reports) (top : ℕ) (on : State → State) (ask : State → Polle
   idle : (s : State) → Quiet look s s
   idle s = unchanged look s s refl refl refl refl refl
 
-  arrive-does : (s : State) (e : ℕ) (b : Bool) → Does look s (cond b (arrival e) quiet) (cond b (arrived s e) s)
-  arrive-does s e true =
+  arrive-does : (s : State) (e n : ℕ) (b : Bool) → Does look s (cond b (arrival e) quiet) (cond b (arrived s e n) s)
+  arrive-does s e n true =
       record { flag = λ j ep. refl; due = λ j ep. refl; sent = λ j ep. refl; bus = record { up = omega arith; excused = refl } }
-  arrive-does s e false = idle s
+  arrive-does s e n false = idle s
 
   one-arrival : (s : State) (e i : ℕ) (b : Bool) → accepts top s i ≡ b → T (s .ready e) → T (not (arrivesAt e (cond b (arrival i) quiet)))
   one-arrival s e i true p w =
@@ -118,7 +121,7 @@ module _ (B : Reports) (top : ℕ) (on : State → State) (ask : State → Polle
       (no-arrival : (s : State) (e : ℕ) → T (not (arrivesAt e (ask s .event))))
     where
       does : (s : State) (o : Op) → Does look s (event top on ask s o) (step top on ask s o)
-      does s (arrive e) = arrive-does s e (accepts top s e)
+      does s (arrive e n) = arrive-does s e n (accepts top s e)
       does s (collect e) = unchanged look s (step top on ask s (collect e)) refl refl refl refl refl
       does s (take e) = unchanged look s (step top on ask s (take e)) refl refl refl refl refl
       does s (raise b) = unchanged look s (step top on ask s (raise b)) refl refl refl refl refl
@@ -126,7 +129,7 @@ module _ (B : Reports) (top : ℕ) (on : State → State) (ask : State → Polle
       does s poll = asked s
 
       one-place : (s : State) (o : Op) (e : ℕ) → T (s .ready e) → T (not (arrivesAt e (event top on ask s o)))
-      one-place s (arrive i) e w = one-arrival s e i (accepts top s i) refl w
+      one-place s (arrive i n) e w = one-arrival s e i (accepts top s i) refl w
       one-place s (collect i) e w = tt
       one-place s (take i) e w = tt
       one-place s (raise b) e w = tt
@@ -249,6 +252,12 @@ module _ (top : ℕ) where
   all-wait s false false true = refl
   all-wait s false false false = refl
 
+  as-long : (s : State) (r m u : Bool) → asked s r m u .state .length ≡ s .length
+  as-long s true m u = refl
+  as-long s false true u = refl
+  as-long s false false true = refl
+  as-long s false false false = refl
+
   honest-lawful : Lawful (small top (honest top)) (λ s. T true) (look asIs top taken (honest top))
   honest-lawful = lawful asIs top taken (honest top) (λ s. same (taken s)) (polls-honestly taken (honest top) (λ s. s) same) none-comes
 
@@ -270,6 +279,14 @@ module _ (top : ℕ) where
   pub throwsTaken-sentences : Sentences (throwsTaken top)
   throwsTaken-sentences = sentences taker-lawful (round-after taker-lawful)
 
+  -- and so does the one that leaves no byte of a packet
+  emptier-lawful : Lawful (small top (emptiesWaiting top)) (λ s. T true) (look asIs top taken (emptiesWaiting top))
+  emptier-lawful =
+      lawful asIs top taken (emptiesWaiting top) (λ s. same (taken s)) (polls-honestly taken (emptiesWaiting top) hollowed hollows) none-comes
+
+  pub emptiesWaiting-sentences : Sentences (small top (emptiesWaiting top))
+  emptiesWaiting-sentences = sentences emptier-lawful (round-after emptier-lawful)
+
   -- the Suspend step mended: after three answered polls the next is a round, whatever was taken
   mended-lawful : Lawful (small top (mended top)) (λ s. T true) (look allThree top taken (mended top))
   mended-lawful =
@@ -287,37 +304,82 @@ module _ (top : ℕ) where
       go (yes p) = eq-eqb e i p ∙ sym (eq-eqb i e (sym p))
       go (no n) = ne-eqb e i n ∙ sym (ne-eqb i e (λ p. n (sym p)))
 
-  comes-in : (s : State) (i e : ℕ) (b : Bool)
-      → cond b (arrived s i) s .ready e ≡ (arrivesAt e (cond b (arrival i) quiet) || (s .ready e && true))
-  comes-in s i e true = λ x. swapped e i x || and-true (s .ready e) x
-  comes-in s i e false = and-true (s .ready e)
+  comes-in : (s : State) (i n e : ℕ) (b : Bool)
+      → cond b (arrived s i n) s .ready e ≡ (arrivesAt e (cond b (arrival i) quiet) || (s .ready e && true))
+  comes-in s i n e true = λ x. swapped e i x || and-true (s .ready e) x
+  comes-in s i n e false = and-true (s .ready e)
 
-  lasts : (s : State) (o : Op) (e : ℕ)
-      → step top taken (honest top) s o .ready e ≡ (arrivesAt e (event top taken (honest top) s o) || (s .ready e && not (takes top taken (honest top) s o e)))
-  lasts s (arrive i) e = comes-in s i e (accepts top s i)
-  lasts s (collect i) e = and-true (s .ready e)
-  lasts s (take i) e = refl
-  lasts s (raise b) e = and-true (s .ready e)
-  lasts s irq e = and-true (s .ready e)
-  lasts s poll e =
-      at (all-wait s (s .bus .reset) (s .bus .resume) (s .bus .suspend)) e
-      ∙ (λ x. sym (is-down (arrivesAt e (honest top s .event)) (none-comes s e)) x || and-true (s .ready e) x)
+  -- with any poll that leaves the ready bits
+  module _
+      (ask : State → Polled)
+      (stay : (s : State) → ask s .state .ready ≡ s .ready)
+      (brings-none : (s : State) (e : ℕ) → T (not (arrivesAt e (ask s .event))))
+    where
+      lasts : (s : State) (o : Op) (e : ℕ)
+          → step top taken ask s o .ready e ≡ (arrivesAt e (event top taken ask s o) || (s .ready e && not (takes top taken ask s o e)))
+      lasts s (arrive i n) e = comes-in s i n e (accepts top s i)
+      lasts s (collect i) e = and-true (s .ready e)
+      lasts s (take i) e = refl
+      lasts s (raise b) e = and-true (s .ready e)
+      lasts s irq e = and-true (s .ready e)
+      lasts s poll e = at (stay s) e ∙ (λ x. sym (is-down (arrivesAt e (ask s .event)) (brings-none s e)) x || and-true (s .ready e) x)
 
-  -- only a read takes
-  reads-take : (s : State) (o : Op) (e : ℕ) → T (takes top taken (honest top) s o e) → event top taken (honest top) s o ≡ quiet
-  reads-take s (arrive i) e t = absurd t
-  reads-take s (collect i) e t = absurd t
-  reads-take s (take i) e t = refl
-  reads-take s (raise b) e t = absurd t
-  reads-take s irq e t = absurd t
-  reads-take s poll e t = absurd t
+      -- only a read takes
+      reads-take : (s : State) (o : Op) (e : ℕ) → T (takes top taken ask s o e) → event top taken ask s o ≡ quiet
+      reads-take s (arrive i n) e t = absurd t
+      reads-take s (collect i) e t = absurd t
+      reads-take s (take i) e t = refl
+      reads-take s (raise b) e t = absurd t
+      reads-take s irq e t = absurd t
+      reads-take s poll e t = absurd t
+
+      until-taken : UntilTaken (small top ask)
+      until-taken =
+          record {
+            first = λ e ep. refl;
+            each = λ e ep h o. lasts (after (small top ask) h) o e;
+            takers = λ e ep h o. reads-take (after (small top ask) h) o e;
+          }
 
   pub honest-until-taken : UntilTaken (small top (honest top))
-  honest-until-taken =
+  honest-until-taken = until-taken (honest top) (λ s. all-wait s (s .bus .reset) (s .bus .resume) (s .bus .suspend)) none-comes
+
+  pub emptiesWaiting-until-taken : UntilTaken (small top (emptiesWaiting top))
+  emptiesWaiting-until-taken = until-taken (emptiesWaiting top) (λ s. all-wait s (s .bus .reset) (s .bus .resume) (s .bus .suspend)) none-comes
+
+  -- and it is as long as it was
+  brought : (s : State) (i n e : ℕ) (b : Bool) → T (arrivesAt e (cond b (arrival i) quiet)) → cond b (arrived s i n) s .length e ≡ n
+  brought s i n e true t = ap (λ (b : Bool). cond b n (s .length e)) (eq-eqb e i (sym (eqb→eq i e t)))
+  brought s i n e false t = absurd t
+
+  -- no other comes where it waits
+  not-over : (s : State) (i n e : ℕ) (b : Bool) → accepts top s i ≡ b → T (s .ready e) → cond b (arrived s i n) s .length e ≡ s .length e
+  not-over s i n e true p w =
+      ap (λ (b : Bool). cond b n (s .length e))
+      (ne-eqb e i (λ here. T-not (s .ready i) (and-right (leb i top) (not (s .ready i)) (subst T (sym p) tt)) (subst (λ (m : ℕ). T (s .ready m)) here w)))
+  not-over s i n e false p w = refl
+
+  comes-long : (s : State) (o : Op) (e : ℕ) → T (arrivesAt e (event top taken (honest top) s o)) → step top taken (honest top) s o .length e ≡ brings o
+  comes-long s (arrive i n) e t = brought s i n e (accepts top s i) t
+  comes-long s (collect i) e t = absurd t
+  comes-long s (take i) e t = absurd t
+  comes-long s (raise b) e t = absurd t
+  comes-long s irq e t = absurd t
+  comes-long s poll e t = absurd (T-not (arrivesAt e (honest top s .event)) (none-comes s e) t)
+
+  stays-long : (s : State) (o : Op) (e : ℕ) → T (s .ready e) → step top taken (honest top) s o .length e ≡ s .length e
+  stays-long s (arrive i n) e w = not-over s i n e (accepts top s i) refl w
+  stays-long s (collect i) e w = refl
+  stays-long s (take i) e w = refl
+  stays-long s (raise b) e w = refl
+  stays-long s irq e w = refl
+  stays-long s poll e w = ap (λ (l : ℕ → ℕ). l e) (as-long s (s .bus .reset) (s .bus .resume) (s .bus .suspend))
+
+  pub honest-same-length : SameLength (small top (honest top))
+  honest-same-length =
       record {
-        first = λ e ep. refl;
-        each = λ e ep h o. lasts (after (small top (honest top)) h) o e;
-        takers = λ e ep h o. reads-take (after (small top (honest top)) h) o e;
+        arrived = λ e ep h o t. comes-long (after (small top (honest top)) h) o e t;
+        waits = λ e ep h o w n. stays-long (after (small top (honest top)) h) o e w;
       }
 
   comes : (e : ℕ) (b : Bool) → T b → T (arrivesAt e (cond b (arrival e) quiet))
@@ -328,12 +390,13 @@ module _ (top : ℕ) where
   honest-not-empty =
       record {
         untilTaken = honest-until-taken;
+        sameLength = honest-same-length;
         good = λ h. tt;
         polled = λ h o q. let s = after (small top (honest top)) h in
             subst (λ (o : Op). T (isAnsweredPoll (event top taken (honest top) s o))) (sym q) (answered s (s .bus .reset) (s .bus .resume) (s .bus .suspend));
         taken = λ h o q. subst (λ (o : Op). T (isInterrupt (event top taken (honest top) (after (small top (honest top)) h) o))) (sym q) tt;
         arrived = λ h e o q w. let s = after (small top (honest top)) h in
-            subst (λ (o : Op). T (arrivesAt e (event top taken (honest top) s o))) (sym (q .1)) (comes e (accepts top s e) (and-both (leb e top) (not (s .ready e)) (le→leb e top (q .0)) w));
+            subst (λ (o : Op). T (arrivesAt e (event top taken (honest top) s o))) (sym (q .2)) (comes e (accepts top s e) (and-both (leb e top) (not (s .ready e)) (le→leb e top (q .0)) w));
         read = λ h e ep o q w. subst (λ (o : Op). T (takes top taken (honest top) (after (small top (honest top)) h) o e)) (sym q) (eqb-refl e);
       }
 

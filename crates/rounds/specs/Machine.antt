@@ -22,7 +22,9 @@ pub record Machine : Type 1 where
   pub step : State → Op → State
   pub event : State → Op → Event
   pub waiting : State → ℕ → Bool  -- the endpoint's RxPktRdy is set: a packet waits there, an empty one too
+  pub length : State → ℕ → ℕ  -- how many bytes the packet has that waits there
   pub takes : State → Op → ℕ → Bool  -- the operation is answered, and takes what waits at the endpoint
+  pub brings : Op → ℕ  -- how many bytes an arrival carries
 
 -- a round: "an answered poll that is neither Reset, Resume nor Suspend"
 abbrev pub isRound : Event → Bool

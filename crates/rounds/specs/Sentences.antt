@@ -1,4 +1,4 @@
--- Demand 3's four sentences over any machine, that a packet waits until it is taken, and that the sentences are not empty.
+-- Demand 3's four sentences over any machine, that a packet waits as it came until it is taken, and that the sentences are not empty.
 -- Assumes nothing.
 use mathlib.Core.Path.{_≡_}
 use mathlib.Core.Bool.{Bool, true, false, not, _&&_, _||_}
@@ -107,6 +107,22 @@ module _ (M : Machine) where
       (e : ℕ) → Endpoint e → (h : History) (a : M .Op) (k : History)
       → T (arrivesAt e (M .event (after M h) a)) → T (not (taken M e (M .step (after M h) a) k)) → Stays M e (M .step (after M h) a) k
 
+  -- And beside that, or a driver that leaves nothing of a waiting packet but its ready bit would keep all of the above: what waits has the
+  -- length that it arrived with, until it is taken.
+  pub record SameLength : Type 0 where
+    pub arrived :
+        (e : ℕ) → Endpoint e → (h : History) (o : M .Op)
+        → T (arrivesAt e (M .event (after M h) o)) → M .length (M .step (after M h) o) e ≡ M .brings o
+    pub waits :
+        (e : ℕ) → Endpoint e → (h : History) (o : M .Op)
+        → T (M .waiting (after M h) e) → T (not (M .takes (after M h) o e)) → M .length (M .step (after M h) o) e ≡ M .length (after M h) e
+
+  -- So a packet that arrived, and that nothing has taken since, is as long as it was.
+  abbrev pub StillAsLong : Type 0
+  StillAsLong =
+      (e : ℕ) → Endpoint e → (h : History) (a : M .Op) (k : History)
+      → T (arrivesAt e (M .event (after M h) a)) → T (not (taken M e (M .step (after M h) a) k)) → M .length (run M (after M h) (a ∷ k)) e ≡ M .brings a
+
   pub record Sentences : Type 0 where
     pub named : Named
     pub samePacket : SamePacket
@@ -124,8 +140,9 @@ pub record Calls (M : Machine) : Type 1 where
 
 module _ (M : Machine) (C : Calls M) where
   pub record NotEmpty : Type 0 where
-    -- what arrived waits until it is taken
+    -- what arrived waits until it is taken, and is as long as it was
     pub untilTaken : UntilTaken M
+    pub sameLength : SameLength M
     -- every record of a history is good
     pub good : (h : List (M .Op)) → C .Good (after M h)
     -- a poll that is lent enough is answered

@@ -18,6 +18,7 @@ pub record Bus : Type 0 where
 -- Words of bits are tests on the endpoint.
 pub record State : Type 0 where
   pub ready : ℕ → Bool  -- RxPktRdy
+  pub length : ℕ → ℕ  -- of the packet that waits
   pub due : ℕ → Bool  -- the interrupt registers: receive, transmit, bus
   pub gone : ℕ → Bool
   pub raised : Bus
@@ -27,7 +28,8 @@ pub record State : Type 0 where
   pub first : List Event  -- the first poll's answer; one sham keeps it
 
 pub data Op : Type 0 where
-  arrive collect take : ℕ → Op  -- a packet arrives, is collected, is read
+  arrive : ℕ → ℕ → Op  -- at an endpoint a packet of so many bytes arrives
+  collect take : ℕ → Op  -- is collected, is read
   raise : Bus → Op
   irq poll : Op
 
@@ -46,28 +48,29 @@ abbrev pub bothBus : Bus → Bus → Bus
 bothBus a b = record { reset = a .reset || b .reset; resume = a .resume || b .resume; suspend = a .suspend || b .suspend }
 
 abbrev pub start : State
-start = record { ready = none; due = none; gone = none; raised = calm; flag = none; sent = none; bus = calm; first = [] }
+start = record { ready = none; length = λ j. 0; due = none; gone = none; raised = calm; flag = none; sent = none; bus = calm; first = [] }
 
-abbrev pub arrived : State → ℕ → State
-arrived s e =
-    record { ready = λ j. eqb j e || s .ready j; due = λ j. eqb j e || s .due j; gone = s .gone; raised = s .raised; flag = s .flag; sent = s .sent; bus = s .bus; first = s .first }
+abbrev pub arrived : State → ℕ → ℕ → State
+arrived s e n =
+    record { ready = λ j. eqb j e || s .ready j; length = λ j. cond (eqb j e) n (s .length j); due = λ j. eqb j e || s .due j; gone = s .gone; raised = s .raised; flag = s .flag; sent = s .sent; bus = s .bus; first = s .first }
 
 abbrev pub collected : State → ℕ → State
 collected s e =
-    record { ready = s .ready; due = s .due; gone = λ j. eqb j e || s .gone j; raised = s .raised; flag = s .flag; sent = s .sent; bus = s .bus; first = s .first }
+    record { ready = s .ready; length = s .length; due = s .due; gone = λ j. eqb j e || s .gone j; raised = s .raised; flag = s .flag; sent = s .sent; bus = s .bus; first = s .first }
 
 abbrev pub emptied : State → ℕ → State
 emptied s e =
-    record { ready = λ j. s .ready j && not (eqb j e); due = s .due; gone = s .gone; raised = s .raised; flag = s .flag; sent = s .sent; bus = s .bus; first = s .first }
+    record { ready = λ j. s .ready j && not (eqb j e); length = s .length; due = s .due; gone = s .gone; raised = s .raised; flag = s .flag; sent = s .sent; bus = s .bus; first = s .first }
 
 abbrev pub busRaised : State → Bus → State
 busRaised s b =
-    record { ready = s .ready; due = s .due; gone = s .gone; raised = bothBus (s .raised) b; flag = s .flag; sent = s .sent; bus = s .bus; first = s .first }
+    record { ready = s .ready; length = s .length; due = s .due; gone = s .gone; raised = bothBus (s .raised) b; flag = s .flag; sent = s .sent; bus = s .bus; first = s .first }
 
 abbrev pub taken : State → State
 taken s =
     record {
       ready = s .ready;
+      length = s .length;
       due = none;
       gone = none;
       raised = calm;
@@ -79,20 +82,25 @@ taken s =
 
 abbrev pub withFlags : State → (ℕ → Bool) → (ℕ → Bool) → State
 withFlags s flag sent =
-    record { ready = s .ready; due = s .due; gone = s .gone; raised = s .raised; flag = flag; sent = sent; bus = s .bus; first = s .first }
+    record { ready = s .ready; length = s .length; due = s .due; gone = s .gone; raised = s .raised; flag = flag; sent = sent; bus = s .bus; first = s .first }
 
 abbrev pub withBus : State → Bus → State
 withBus s bus =
-    record { ready = s .ready; due = s .due; gone = s .gone; raised = s .raised; flag = s .flag; sent = s .sent; bus = bus; first = s .first }
+    record { ready = s .ready; length = s .length; due = s .due; gone = s .gone; raised = s .raised; flag = s .flag; sent = s .sent; bus = bus; first = s .first }
 
 abbrev pub withFirst : State → List Event → State
 withFirst s first =
-    record { ready = s .ready; due = s .due; gone = s .gone; raised = s .raised; flag = s .flag; sent = s .sent; bus = s .bus; first = first }
+    record { ready = s .ready; length = s .length; due = s .due; gone = s .gone; raised = s .raised; flag = s .flag; sent = s .sent; bus = s .bus; first = first }
 
 -- every packet that waits is thrown away
 abbrev pub thrown : State → State
 thrown s =
-    record { ready = none; due = s .due; gone = s .gone; raised = s .raised; flag = s .flag; sent = s .sent; bus = s .bus; first = s .first }
+    record { ready = none; length = s .length; due = s .due; gone = s .gone; raised = s .raised; flag = s .flag; sent = s .sent; bus = s .bus; first = s .first }
+
+-- every packet that waits stays, with no byte left
+abbrev pub hollowed : State → State
+hollowed s =
+    record { ready = s .ready; length = λ j. 0; due = s .due; gone = s .gone; raised = s .raised; flag = s .flag; sent = s .sent; bus = s .bus; first = s .first }
 
 -- the order of a poll: Reset, Resume, Suspend (which puts down reset and never its own), then a round
 abbrev pub inOrder : Bool → Bool → Bool → State → Polled → Polled
@@ -127,6 +135,15 @@ abbrev pub without : (ℕ → Bool) → (ℕ → Bool) → ℕ → ℕ → Bool
 without flag ready zero j = flag j
 without flag ready (suc n) j = cond (drained flag ready n) (flag j && not (eqb j n)) (without flag ready n j)
 
+-- how many bytes an operation brings
+abbrev pub brings : Op → ℕ
+brings (arrive e n) = n
+brings (collect e) = 0
+brings (take e) = 0
+brings (raise b) = 0
+brings irq = 0
+brings poll = 0
+
 module _ (top : ℕ) where
   -- an arrival is answered at an endpoint of the machine where none waits
   abbrev pub accepts : State → ℕ → Bool
@@ -135,7 +152,7 @@ module _ (top : ℕ) where
   -- a machine whose interrupt is `on` and whose poll is `ask`
   module _ (on : State → State) (ask : State → Polled) where
     abbrev pub step : State → Op → State
-    step s (arrive e) = cond (accepts s e) (arrived s e) s
+    step s (arrive e n) = cond (accepts s e) (arrived s e n) s
     step s (collect e) = collected s e
     step s (take e) = emptied s e
     step s (raise b) = busRaised s b
@@ -143,7 +160,7 @@ module _ (top : ℕ) where
     step s poll = ask s .state
 
     abbrev pub event : State → Op → Event
-    event s (arrive e) = cond (accepts s e) (arrival e) quiet
+    event s (arrive e n) = cond (accepts s e) (arrival e) quiet
     event s (collect e) = quiet
     event s (take e) = quiet
     event s (raise b) = quiet
@@ -152,7 +169,7 @@ module _ (top : ℕ) where
 
     -- a packet is taken by being read
     abbrev pub takes : State → Op → ℕ → Bool
-    takes s (arrive i) e = false
+    takes s (arrive i n) e = false
     takes s (collect i) e = false
     takes s (take i) e = eqb e i
     takes s (raise b) e = false
@@ -161,10 +178,21 @@ module _ (top : ℕ) where
 
     abbrev pub machine : Machine
     machine =
-        record { top = top; State = State; Op = Op; fresh = start; step = step; event = event; waiting = λ s e. s .ready e; takes = takes }
+        record {
+          top = top;
+          State = State;
+          Op = Op;
+          fresh = start;
+          step = step;
+          event = event;
+          waiting = λ s e. s .ready e;
+          length = λ s e. s .length e;
+          takes = takes;
+          brings = brings;
+        }
 
     abbrev pub calls : Calls machine
-    calls = record { Good = λ s. T true; Poll = λ o. o ≡ poll; Interrupt = λ o. o ≡ irq; Arrival = λ s e o. (e ≤ top) × (o ≡ arrive e); Read = λ s e o. o ≡ take e }
+    calls = record { Good = λ s. T true; Poll = λ o. o ≡ poll; Interrupt = λ o. o ≡ irq; Arrival = λ s e o. (e ≤ top) × (n : ℕ) × (o ≡ arrive e n); Read = λ s e o. o ≡ take e }
 
   abbrev pub small : (State → Polled) → Machine
   small ask = machine taken ask
@@ -213,6 +241,10 @@ module _ (top : ℕ) where
   abbrev pub throwsAway : State → Polled
   throwsAway s = let p = honest s in record { event = p .event; state = thrown (p .state) }
 
+  -- names every packet, and leaves no byte of it: all four sentences hold of it, and every packet waits until it is taken
+  abbrev pub emptiesWaiting : State → Polled
+  emptiesWaiting s = let p = honest s in record { event = p .event; state = hollowed (p .state) }
+
   abbrev pub alwaysNone : State → Polled
   alwaysNone s = record { event = round none none; state = s }
 
@@ -235,4 +267,15 @@ display ask = small 5 (ask 5)
 abbrev pub callsTakers : Machine
 callsTakers =
     let M = display throwsAway in
-    record { top = M .top; State = M .State; Op = M .Op; fresh = M .fresh; step = M .step; event = M .event; waiting = M .waiting; takes = λ s o e. true }
+    record {
+      top = M .top;
+      State = M .State;
+      Op = M .Op;
+      fresh = M .fresh;
+      step = M .step;
+      event = M .event;
+      waiting = M .waiting;
+      length = M .length;
+      takes = λ s o e. true;
+      brings = M .brings;
+    }
