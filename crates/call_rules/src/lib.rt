@@ -13,10 +13,11 @@ pub enum Reply {
     Refused(Refusal),
 }
 
+// The record stands first, where it is: so that a call copies less (bench/).
 pub struct Called {
-    pub answer: Reply,
     pub record: Record,
     pub stores: usize,
+    pub answer: Reply,
 }
 
 // What a call leaves besides the registers: how many stores stand in the list, and the control state.
@@ -34,8 +35,8 @@ pub enum AllocAnswer {
 }
 
 pub struct AllocCalled {
-    pub answer: AllocAnswer,
     pub record: Record,
+    pub answer: AllocAnswer,
 }
 
 // The answer and the endpoints, which are all that `alloc_ep` changes.
@@ -51,9 +52,9 @@ pub enum StalledAnswer {
 }
 
 pub struct StalledCalled {
-    pub answer: StalledAnswer,
     pub record: Record,
     pub stores: usize,
+    pub answer: StalledAnswer,
 }
 
 // What `is_stalled` leaves besides the registers.
@@ -75,6 +76,6 @@ pub enum InterruptAnswer {
 }
 
 pub struct InterruptCalled {
-    pub answer: InterruptAnswer,
     pub record: Record,
+    pub answer: InterruptAnswer,
 }

@@ -11,8 +11,8 @@ pub enum EventAnswer {
 }
 
 pub struct EventCalled {
-    pub answer: EventAnswer,
     pub record: Record,
+    pub answer: EventAnswer,
 }
 
 // The answer of a collection: where the packet stands in the FIFO buffer, start and length.
@@ -22,8 +22,8 @@ pub enum CollectAnswer {
 }
 
 pub struct CollectCalled {
-    pub answer: CollectAnswer,
     pub record: Record,
+    pub answer: CollectAnswer,
 }
 
 // What happens at no endpoint: a bus event, or SetupEnd.

@@ -34,18 +34,9 @@ module _ (flags : ℕ) (ready : ℕ → Bool) (Known : Log → Type 0) (keeps : 
       follows es (visit flags o e) (keeps e (o .log) i)
       ∙ ap (λ (b : Bool). foldl (drainedBy flags ready) (cond b (o .out) (clear flags e)) es) (reads e (o .log) i)
 
-  keeps-on : (es : List ℕ) (o : Walk) → Known (o .log) → Known (foldl (visit flags) o es .log)
-  unfolding visit
-  keeps-on [] o i = i
-  keeps-on (e ∷ es) o i = keeps-on es (visit flags o e) (keeps e (o .log) i)
-
   pub walked-left : (g : Log) → Known g → walked flags g .out ≡ leftBy flags ready
   unfolding walked leftBy
   walked-left g i = follows (setBits flags) _ i
-
-  pub walked-keeps : (g : Log) → Known g → Known (walked flags g .log)
-  unfolding walked
-  walked-keeps g i = keeps-on (setBits flags) _ i
 
 -- on Bools
 and-left : (a b : Bool) → T (a && b) → T a

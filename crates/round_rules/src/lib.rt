@@ -46,9 +46,9 @@ pub enum PollAnswer {
 }
 
 pub struct PollCalled {
-    pub answer: PollAnswer,
     pub record: Record,
     pub stores: usize,
+    pub answer: PollAnswer,
 }
 
 // What a poll leaves besides the registers.

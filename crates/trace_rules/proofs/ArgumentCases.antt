@@ -28,9 +28,6 @@ module _ (most : ℕ) (x : Number) where
   pub range-over : (a past : ℕ) → x ≡ Value a past → most < a → No ≡ inRange most x
   range-over a past v h = rw v (simp (lt-leb _ _ h))
 
-  pub range-bad : x ≡ NoNumber → No ≡ inRange most x
-  range-bad v = rw v
-
 -- `arg_at`
 pub arg-is : (s : List ℕ) (at most : ℕ) (n : Number) {r : Arg} → n ≡ numberAt s at → r ≡ inRange most n → r ≡ argAt s at most
 unfolding argAt
