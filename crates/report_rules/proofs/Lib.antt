@@ -6,3 +6,9 @@ pub mod DetailCounted
 pub mod DetailExamples
 pub mod DetailSelected
 pub mod DetailWritten
+pub mod GivenBack
+pub mod GivenBytes
+pub mod GivenEver
+pub mod GivenFile
+pub mod GivenMade
+pub mod GivenNumbers

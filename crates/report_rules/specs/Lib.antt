@@ -4,3 +4,5 @@ pub mod Report
 pub mod Runs
 pub mod DetailLines
 pub mod DetailNumbers
+pub mod Given
+pub mod GivenPrinted

@@ -1,5 +1,7 @@
 // A record from the 96 numbers that a detail report prints of it, each in four bytes, low byte first: where the comparison of single
-// calls begins. Nothing is promised of what is built: a number that is read wrongly shows in the record that the comparison prints.
+// calls begins. Promised: the record is `recordOf` of the numbers (report_rules, specs/Given.antt), and a report prints these numbers of it,
+// whatever the record was whose numbers they are (`back` and `again` there). Of numbers that no report prints, a word keeps 16 bits, a control
+// register the bits that it reads, and a mark is 1 or not.
 use board::Board;
 use board::Direction;
 use control_state::ControlState;
@@ -11,23 +13,27 @@ use endpoints::EndpointType;
 use record::Flags;
 use record::Record;
 use register_file::Regs;
+ghost use mathlib.Core.Path.{_≡_};
 ghost use Prim.Native.Nat.{_+_, _≤_, _<_};
+ghost use lib.ListN.{getD};
+ghost use Rattle.report_rules.specs.Given.{numbersOf, longAt, wordAt, truthAt, withChip, zeroTx, zeroRx, withZero, baseOf, sideFrom, withSides, fileOf, typeOf, dataOf, datasOf, stateOf, recordOf};
 
 fn wide(x: u8) -> u32
-    ensures { λ r. ⌜ r < 256 ⌝ }
+    ensures { λ r. ⌜ (r ≡ x) × (r < 256) ⌝ }
 {
     x as u32
 }
 
 // Past the head's end stand zeros.
 fn byte(h: &[u8], at: usize) -> u32
-    ensures { λ r. ⌜ r < 256 ⌝ }
+    ensures { λ r. ⌜ (r ≡ getD (now (h .entry)) at 0) × (r < 256) ⌝ }
 {
     if at < h.len() { wide(h[at]) } else { 0 }
 }
 
 fn long(h: &[u8], i: usize) -> u32
     requires { ⌜ i < 96 ⌝ }
+    ensures { λ r. ⌜ r ≡ longAt (numbersOf (now (h .entry))) i ⌝ }
 {
     let low = byte(h, 4 * i) + 256 * byte(h, 4 * i + 1);
     low + 65536 * byte(h, 4 * i + 2) + 16777216 * byte(h, 4 * i + 3)
@@ -35,18 +41,22 @@ fn long(h: &[u8], i: usize) -> u32
 
 fn word(h: &[u8], i: usize) -> u16
     requires { ⌜ i < 96 ⌝ }
+    ensures { λ r. ⌜ r ≡ wordAt (numbersOf (now (h .entry))) i ⌝ }
 {
     (long(h, i) % 65536) as u16
 }
 
 fn truth(h: &[u8], i: usize) -> bool
     requires { ⌜ i < 96 ⌝ }
+    ensures { λ r. ⌜ r ≡ truthAt (numbersOf (now (h .entry))) i ⌝ }
 {
     long(h, i) == 1
 }
 
 // The registers that are there once.
-fn put_chip(w: &mut [u16; 46], h: &[u8]) {
+fn put_chip(w: &mut [u16; 46], h: &[u8])
+    ensures { λ _. ⌜ now (w .exit) ≡ withChip (numbersOf (now (h .entry))) (now (w .entry)) ⌝ }
+{
     w[regs::FADDR] = word(h, 0);
     w[regs::POWER] = word(h, 1);
     w[regs::INDEX] = word(h, 2);
@@ -59,18 +69,42 @@ fn put_chip(w: &mut [u16; 46], h: &[u8]) {
 }
 
 // Endpoint 0: its bits stand in CSR0L.
-fn put_zero(w: &mut [u16; 46], h: &[u8]) {
+fn zero_tx(h: &[u8], v: u16) -> Side
+    requires { ⌜ v ≡ wordAt (numbersOf (now h)) 9 ⌝ }
+    ensures { λ s. ⌜ s ≡ zeroTx (numbersOf (now (h .entry))) ⌝ }
+{
+    Side {
+        ready: laws::has_bit(v, 1),
+        missed: false,
+        stall: laws::has_bit(v, 5),
+        stalled: laws::has_bit(v, 2),
+        iso: false,
+        maxp: 0,
+        len: word(h, 16),
+    }
+}
+
+fn zero_rx(h: &[u8], v: u16) -> Side
+    requires { ⌜ v ≡ wordAt (numbersOf (now h)) 9 ⌝ }
+    ensures { λ s. ⌜ s ≡ zeroRx (numbersOf (now (h .entry))) ⌝ }
+{
+    Side {
+        ready: laws::has_bit(v, 0),
+        missed: false,
+        stall: false,
+        stalled: false,
+        iso: false,
+        maxp: 0,
+        len: word(h, 17),
+    }
+}
+
+fn put_zero(w: &mut [u16; 46], h: &[u8])
+    ensures { λ _. ⌜ now (w .exit) ≡ withZero (numbersOf (now (h .entry))) (now (w .entry)) ⌝ }
+{
     let v = word(h, 9);
-    let mut tx = csr_ops::no_side();
-    tx.ready = laws::has_bit(v, 1);
-    tx.stall = laws::has_bit(v, 5);
-    tx.stalled = laws::has_bit(v, 2);
-    tx.len = word(h, 16);
-    let mut rx = csr_ops::no_side();
-    rx.ready = laws::has_bit(v, 0);
-    rx.len = word(h, 17);
-    regs::put_side(w, 0, Direction::In, tx);
-    regs::put_side(w, 0, Direction::Out, rx);
+    regs::put_side(w, 0, Direction::In, zero_tx(h, v));
+    regs::put_side(w, 0, Direction::Out, zero_rx(h, v));
     w[regs::SETUPEND] = csr_ops::weight(laws::has_bit(v, 4), 1);
 }
 
@@ -78,6 +112,7 @@ fn put_zero(w: &mut [u16; 46], h: &[u8]) {
 // SendStall, whose place the two registers do not share.
 fn side(h: &[u8], i: usize, stall: u8) -> Side
     requires { ⌜ (i + 6 < 96) × (stall + 1 < 16) ⌝ }
+    ensures { λ s. ⌜ s ≡ sideFrom (numbersOf (now (h .entry))) i stall ⌝ }
 {
     let v = word(h, i);
     Side {
@@ -94,20 +129,23 @@ fn side(h: &[u8], i: usize, stall: u8) -> Side
 // The numbers of endpoint e begin here.
 fn base(e: usize) -> usize
     requires { ⌜ e < 6 ⌝ }
-    ensures { λ r. ⌜ r ≤ 75 ⌝ }
+    ensures { λ r. ⌜ (r ≡ baseOf e) × (r ≤ 75) ⌝ }
 {
     10 + 13 * e
 }
 
 fn put_sides(w: &mut [u16; 46], h: &[u8], e: u16)
     requires { ⌜ e < 6 ⌝ }
+    ensures { λ _. ⌜ now (w .exit) ≡ withSides (numbersOf (now (h .entry))) e (now (w .entry)) ⌝ }
 {
     let b = base(e as usize);
     regs::put_side(w, e, Direction::In, side(h, b, 4));
     regs::put_side(w, e, Direction::Out, side(h, b + 1, 5));
 }
 
-fn words(h: &[u8]) -> [u16; 46] {
+fn words(h: &[u8]) -> [u16; 46]
+    ensures { λ w. ⌜ w ≡ fileOf (numbersOf (now (h .entry))) ⌝ }
+{
     let mut w = [0u16; 46];
     put_chip(&mut w, h);
     put_zero(&mut w, h);
@@ -119,7 +157,9 @@ fn words(h: &[u8]) -> [u16; 46] {
     w
 }
 
-fn type_from(n: u32) -> EndpointType {
+fn type_from(n: u32) -> EndpointType
+    ensures { λ t. ⌜ t ≡ typeOf n ⌝ }
+{
     match n {
         0 => EndpointType::Control,
         1 => EndpointType::Isochronous,
@@ -130,6 +170,7 @@ fn type_from(n: u32) -> EndpointType {
 
 fn endpoint(h: &[u8], e: usize) -> EndpointData
     requires { ⌜ e < 6 ⌝ }
+    ensures { λ d. ⌜ d ≡ dataOf (numbersOf (now (h .entry))) e ⌝ }
 {
     let b = base(e);
     let t = type_from(long(h, b + 8));
@@ -144,7 +185,9 @@ fn endpoint(h: &[u8], e: usize) -> EndpointData
     }
 }
 
-fn endpoints(h: &[u8]) -> [EndpointData; 6] {
+fn endpoints(h: &[u8]) -> [EndpointData; 6]
+    ensures { λ l. ⌜ l ≡ datasOf (numbersOf (now (h .entry))) ⌝ }
+{
     let a = endpoint(h, 0);
     let b = endpoint(h, 1);
     let c = endpoint(h, 2);
@@ -154,7 +197,9 @@ fn endpoints(h: &[u8]) -> [EndpointData; 6] {
     [a, b, c, d, e, f]
 }
 
-fn state_from(n: u32) -> ControlStateEnum {
+fn state_from(n: u32) -> ControlStateEnum
+    ensures { λ s. ⌜ s ≡ stateOf n ⌝ }
+{
     match n {
         0 => ControlStateEnum::Idle,
         1 => ControlStateEnum::Setup,
@@ -165,7 +210,9 @@ fn state_from(n: u32) -> ControlStateEnum {
     }
 }
 
-pub fn record_from(h: &[u8]) -> Record {
+pub fn record_from(h: &[u8]) -> Record
+    ensures { λ k. ⌜ k ≡ recordOf (numbersOf (now (h .entry))) ⌝ }
+{
     let w = words(h);
     let es = endpoints(h);
     let s = state_from(long(h, 88));
