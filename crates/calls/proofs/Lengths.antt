@@ -4,7 +4,7 @@ use Prim.Native.Nat.{ℕ, _<_}
 use mathlib.Core.List.{List}
 use mathlib.Core.Path.{_≡_, refl, sym, ap, _∙_}
 use mathlib.Core.Bool.{Bool, true, false, cond}
-use Rattle.laws.proofs.Tests.{clash, and-one}
+use Rattle.laws.proofs.Tests.{clash}
 use lib.Dec.{eqb}
 use Rattle.board.specs.declared.Board.{Board}
 use Rattle.board.specs.declared.Direction.{Direction}
@@ -14,6 +14,7 @@ use Rattle.csr.specs.declared.Rxcsrl.{Rxcsrl}
 use Rattle.csr.specs.Registers.{withIso, withMaxp, towards}
 use Rattle.csr.specs.Control.{rxStored, dropped}
 use Rattle.csr.proofs.AsWritten.{rx-cleared, rx-kept, rx-flushed, drops}
+use Rattle.csr.proofs.Stored.{not-dropped}
 use Rattle.register_file.specs.Registers as file
 use Rattle.register_file.specs.Registers.{File, Whole, sideAt}
 use Rattle.store_rules.specs.Stores.{Log}
@@ -71,9 +72,8 @@ rx-lasting w s = go (w .«flush_fifo») (w .«rx_pkt_rdy») refl refl
     go false true p q = let k = rx-kept w s p q in alike (k .0) (k .1)
 
 dropped-lasting : (b : Bool) (s : Side) → Lasting s (dropped b s)
-unfolding dropped
 dropped-lasting true s = gone (drops s .0)
-dropped-lasting false s = alike (and-one (s .ready)) refl
+dropped-lasting false s = alike (ap (λ (x : Side). x .ready) (not-dropped s)) (ap (λ (x : Side). x .len) (not-dropped s))
 
 -- any store, at any receive side
 leaves-lasting : (o : Store) (i e : ℕ) (s : Side) → Lasting s (leaves o i e Out s)
