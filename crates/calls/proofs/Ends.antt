@@ -36,6 +36,8 @@ use Rattle.record.specs.declared.Record.{Record}
 use Rattle.record.specs.declared.Admission.{Admission}
 use Rattle.record.specs.Rows.{Row, Given, Replies}
 use Rattle.record.specs.Record.{recordSound, admissionBy, endpointsOf, withRegs, withEndpoints}
+use Rattle.call_rules.specs.declared.StalledAnswer.{StalledAnswer}
+use Rattle.call_rules.specs.declared.StalledAnswer.the-variants as stalled
 use Rattle.call_rules.specs.Calls as impl
 use Rattle.call_rules.specs.Alloc as impl-alloc
 use Rattle.call_rules.specs.Stall as impl-stall
@@ -60,6 +62,8 @@ use Rattle.call_rules.specs.Interrupt.{interruptBy, interruptCall}
 use Rattle.round_rules.specs.Poll.{PollOutcome, outcomeOf, pollNumber, pollWhen, pollAdmitted, pollCall}
 use Rattle.round_rules.proofs.PollReplies as polls
 use Rattle.host_rules.specs.declared.EventCalled.{EventCalled}
+use Rattle.host_rules.specs.declared.CollectAnswer.{CollectAnswer}
+use Rattle.host_rules.specs.declared.CollectAnswer.the-variants as taken
 use Rattle.host_rules.specs.Host as host
 use Rattle.host_rules.specs.Replies as event-rows
 use Rattle.host_rules.proofs.Replies as events
@@ -88,6 +92,15 @@ given-among n [] g = rw (eq-eqb n 0 g)
 given-among n (r ∷ rs) (inl g) = rw (eq-eqb n (r .number) (g .1))
 given-among n (r ∷ rs) (inr g) = rw (given-among n rs (g .1)) (or-right (eqb n (r .number)))
 
+-- a refused call has no values
+no-told : (a : StalledAnswer) → (impl-stall.toldNumber a ≡ 0 → ⊥) → impl-stall.toldValues a ≡ []
+no-told (stalled.Done b) n = absurd (n refl)
+no-told (stalled.Refused x) n = refl
+
+no-taken : (a : CollectAnswer) (f : List ℕ) → (host.takenNumber a ≡ 0 → ⊥) → host.takenValues a f ≡ []
+no-taken (taken.Done start len) f n = absurd (n refl)
+no-taken (taken.Refused x) f n = refl
+
 -- a call whose replies are its rows', 6 not among them: where it is refused, all is as it was
 module _ (k : Record) (o : Op) (rs : List Row) (is : numbers rs ≡ replies o) (no-six : among 6 (replies o) ≡ false) where
   by-rows : {x : Outcome} → Replies (x .reply) rs → ((x .reply ≡ 0 → ⊥) → x ≡ unchanged (x .reply) k (lent o)) → Ends k o x
@@ -107,7 +120,16 @@ module _ (k : Record) (o : Op) (rs : List Row) (is : numbers rs ≡ replies o) (
 
   told-ends : (l : List ℕ) {b : Bool} {a : impl-stall.ToldOutcome} → lent o ≡ listLent l → stall-rows.Tells a k l rs b → Ends k o (told a)
   told-ends l {b} {a} p t =
-      by-rows (t .replies) (λ n. ap told (t .unchanged n) ∙ ap (unchanged (impl-stall.toldNumber (a .call .answer)) k) (sym p))
+      by-rows (t .replies)
+      (λ n. ap told (t .unchanged n) ∙ (λ i. record {
+        reply = impl-stall.toldNumber (a .call .answer);
+        values = no-told (a .call .answer) n i;
+        «record» = k;
+        stores = 0;
+        fifo = [];
+        list = l;
+        buf = [];
+      }) ∙ ap (unchanged (impl-stall.toldNumber (a .call .answer)) k) (sym p))
 
   happened-ends : {a : EventCalled} → lent o ≡ noneLent → event-rows.Answers a k rs → Ends k o (happened a)
   happened-ends {a} p t =
@@ -128,10 +150,11 @@ module _ (k : Record) (e : ℕ) (l : List ℕ) where
 
   -- the same in write and read, which differ in what else they are lent
   blocks : (f b : List ℕ) → 384 ≤ length l
-      → record { reply = 6; «record» = withRegs k (chose .regs); stores = chose .count; fifo = f; list = chose .list; buf = b }
+      → record { reply = 6; values = []; «record» = withRegs k (chose .regs); stores = chose .count; fifo = f; list = chose .list; buf = b }
       ≡ selected e k (record { fifo = f; list = l; buf = b })
   blocks f b h = λ i. record {
     reply = 6;
+    values = [];
     «record» = withRegs k (index-selects e (log (k .regs .words) l 0) i);
     stores = chose-count i;
     fifo = f;
@@ -273,7 +296,15 @@ module _ (k : Record) where
   collection-ends e f =
       let t = events.collection k e f in
       by-rows k (collection e f) (event-rows.collectionRows k e (length f)) refl refl (t .replies)
-      (λ n i. collected (record { answer = host.collectionCall k e f .answer; «record» = t .unchanged n i }))
+      (λ n i. record {
+        reply = host.takenNumber (host.collectionCall k e f .answer);
+        values = no-taken (host.collectionCall k e f .answer) f n i;
+        «record» = t .unchanged n i;
+        stores = 0;
+        fifo = [];
+        list = [];
+        buf = [];
+      })
 
   pub ends : (o : Op) → Ended o
   ends (busInit l) = called-ends k (busInit l) (simple-rows.listRows k l) refl refl l refl (simple.bus-init k l)

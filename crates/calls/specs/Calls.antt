@@ -13,10 +13,10 @@ use Rattle.call_rules.specs.Alloc as impl-alloc
 use Rattle.call_rules.specs.Reset as impl-reset
 use Rattle.call_rules.specs.Stall as impl-stall
 use Rattle.transfer_rules.specs.Write.{WriteOutcome, writeCall}
-use Rattle.transfer_rules.specs.WriteZero.{wroteNumber}
+use Rattle.transfer_rules.specs.WriteZero.{wroteNumber, wroteValues}
 use Rattle.transfer_rules.specs.Read.{ReadOutcome, readCall}
-use Rattle.transfer_rules.specs.ReadZero.{gotNumber}
-use Rattle.round_rules.specs.Poll.{PollOutcome, pollCall, pollNumber}
+use Rattle.transfer_rules.specs.ReadZero.{gotNumber, gotValues}
+use Rattle.round_rules.specs.Poll.{PollOutcome, pollCall, pollNumber, pollValues}
 use Rattle.call_rules.specs.declared.InterruptCalled.{InterruptCalled}
 use Rattle.call_rules.specs.Interrupt.{interruptCall, interruptNumber}
 use Rattle.host_rules.specs.declared.EventCalled.{EventCalled}
@@ -42,10 +42,12 @@ pub data Op : Type 0 where
   busReset suspend resume setupEnd : Op
   underrun overrun : ℕ → Op
 
--- All that an operation leaves: document 01's reply number, the record, how many stores it says to have listed, and every lent buffer that
--- it may write. A buffer that is not lent, or lent only to be read, is [].
+-- All that an operation leaves: document 01's reply number and values ("the endpoint, written length, 0 or 1; for reads the count then stored
+-- bytes; for collect the bytes; for poll .."), the record, how many stores it says to have listed, and every lent buffer that it may write. A
+-- buffer that is not lent, or lent only to be read, is [].
 pub record Outcome : Type 0 where
   pub reply : ℕ
+  pub values : List ℕ
   pub «record» : Record
   pub stores : ℕ
   pub fifo : List ℕ
@@ -53,34 +55,100 @@ pub record Outcome : Type 0 where
   pub buf : List ℕ
 
 abbrev pub called : impl.Outcome → Outcome
-called o = record { reply = impl.replyNumber (o .call .answer); «record» = o .call .«record»; stores = o .call .stores; fifo = []; list = o .list; buf = [] }
+called o = record {
+  reply = impl.replyNumber (o .call .answer);
+  values = [];
+  «record» = o .call .«record»;
+  stores = o .call .stores;
+  fifo = [];
+  list = o .list;
+  buf = [];
+}
 
 abbrev pub told : impl-stall.ToldOutcome → Outcome
-told o = record { reply = impl-stall.toldNumber (o .call .answer); «record» = o .call .«record»; stores = o .call .stores; fifo = []; list = o .list; buf = [] }
+told o = record {
+  reply = impl-stall.toldNumber (o .call .answer);
+  values = impl-stall.toldValues (o .call .answer);
+  «record» = o .call .«record»;
+  stores = o .call .stores;
+  fifo = [];
+  list = o .list;
+  buf = [];
+}
 
 abbrev pub allocated : AllocCalled → Outcome
-allocated o = record { reply = impl-alloc.allocationNumber (o .answer); «record» = o .«record»; stores = 0; fifo = []; list = []; buf = [] }
+allocated o = record {
+  reply = impl-alloc.allocationNumber (o .answer);
+  values = impl-alloc.allocationValues (o .answer);
+  «record» = o .«record»;
+  stores = 0;
+  fifo = [];
+  list = [];
+  buf = [];
+}
 
 abbrev pub written : WriteOutcome → Outcome
-written o = record { reply = wroteNumber (o .result .answer); «record» = o .result .«record»; stores = o .result .stores; fifo = o .fifo; list = o .list; buf = [] }
+written o = record {
+  reply = wroteNumber (o .result .answer);
+  values = wroteValues (o .result .answer);
+  «record» = o .result .«record»;
+  stores = o .result .stores;
+  fifo = o .fifo;
+  list = o .list;
+  buf = [];
+}
 
+-- the stored bytes are those that the call left in the buffer
 abbrev pub fetched : ReadOutcome → Outcome
-fetched o = record { reply = gotNumber (o .result .answer); «record» = o .result .«record»; stores = o .result .stores; fifo = []; list = o .list; buf = o .buf }
+fetched o = record {
+  reply = gotNumber (o .result .answer);
+  values = gotValues (o .result .answer) (o .buf);
+  «record» = o .result .«record»;
+  stores = o .result .stores;
+  fifo = [];
+  list = o .list;
+  buf = o .buf;
+}
 
 abbrev pub polled : PollOutcome → Outcome
-polled o = record { reply = pollNumber (o .result .answer); «record» = o .result .«record»; stores = o .result .stores; fifo = []; list = o .list; buf = [] }
+polled o = record {
+  reply = pollNumber (o .result .answer);
+  values = pollValues (o .result .answer);
+  «record» = o .result .«record»;
+  stores = o .result .stores;
+  fifo = [];
+  list = o .list;
+  buf = [];
+}
 
 abbrev pub interrupted : InterruptCalled → Outcome
-interrupted o = record { reply = interruptNumber (o .answer); «record» = o .«record»; stores = 0; fifo = []; list = []; buf = [] }
+interrupted o = record { reply = interruptNumber (o .answer); values = []; «record» = o .«record»; stores = 0; fifo = []; list = []; buf = [] }
 
 abbrev pub happened : EventCalled → Outcome
-happened o = record { reply = host.happenedNumber (o .answer); «record» = o .«record»; stores = 0; fifo = []; list = []; buf = [] }
+happened o = record { reply = host.happenedNumber (o .answer); values = []; «record» = o .«record»; stores = 0; fifo = []; list = []; buf = [] }
 
 abbrev pub arrived : host.Arrival → Outcome
-arrived o = record { reply = host.happenedNumber (o .event .answer); «record» = o .event .«record»; stores = 0; fifo = o .fifo; list = []; buf = [] }
+arrived o = record {
+  reply = host.happenedNumber (o .event .answer);
+  values = [];
+  «record» = o .event .«record»;
+  stores = 0;
+  fifo = o .fifo;
+  list = [];
+  buf = [];
+}
 
-abbrev pub collected : CollectCalled → Outcome
-collected o = record { reply = host.takenNumber (o .answer); «record» = o .«record»; stores = 0; fifo = []; list = []; buf = [] }
+-- the bytes are those that stand in the lent FIFO buffer
+abbrev pub collected : List ℕ → CollectCalled → Outcome
+collected f o = record {
+  reply = host.takenNumber (o .answer);
+  values = host.takenValues (o .answer) f;
+  «record» = o .«record»;
+  stores = 0;
+  fifo = [];
+  list = [];
+  buf = [];
+}
 
 -- Each call's own definition decides; `forceReset` takes no record, so that it leaves any as it was.
 abbrev pub outcome : Record → Op → Outcome
@@ -95,9 +163,9 @@ outcome k (setStalled e d s l) = called (impl-stall.setStalledCall k e d s l)
 outcome k (isStalled e d l) = told (impl-stall.isStalledCall k e d l)
 outcome k (poll l) = polled (pollCall k l)
 outcome k onInterrupt = interrupted (interruptCall k)
-outcome k forceReset = record { reply = impl.replyNumber impl.forceResetCall; «record» = k; stores = 0; fifo = []; list = []; buf = [] }
+outcome k forceReset = record { reply = impl.replyNumber impl.forceResetCall; values = []; «record» = k; stores = 0; fifo = []; list = []; buf = [] }
 outcome k (arrival e b f) = arrived (host.arrivalCall k e b f)
-outcome k (collection e f) = collected (host.collectionCall k e f)
+outcome k (collection e f) = collected f (host.collectionCall k e f)
 outcome k busReset = happened (host.busResetCall k)
 outcome k suspend = happened (host.suspendCall k)
 outcome k resume = happened (host.resumeCall k)

@@ -85,14 +85,16 @@ lent setupEnd = noneLent
 lent (underrun e) = noneLent
 lent (overrun e) = noneLent
 
--- "A refusal returns its number and changes nothing: record, FIFOs, list, caller's buffer."
+-- "A refusal returns its number and changes nothing: record, FIFOs, list, caller's buffer." It has no values: "A refused entry prints code and
+-- reply only".
 abbrev pub unchanged : ℕ → Record → Lent → Outcome
-unchanged n k b = record { reply = n; «record» = k; stores = 0; fifo = b .fifo; list = b .list; buf = b .buf }
+unchanged n k b = record { reply = n; values = []; «record» = k; stores = 0; fifo = b .fifo; list = b .list; buf = b .buf }
 
 -- "The one exception is 6, which has selected the endpoint and listed that store": register 3, with "the new number in both places"
 abbrev pub selected : ℕ → Record → Lent → Outcome
 selected e k b = record {
   reply = 6;
+  values = [];
   «record» = withRegs k (withIndex (k .regs .words) e);
   stores = 1;
   fifo = b .fifo;

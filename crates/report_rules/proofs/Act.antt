@@ -24,7 +24,7 @@ use Rattle.call_rules.specs.Stall as impl-stall
 use Rattle.transfer_rules.specs.declared.WriteAnswer.{WriteAnswer}
 use Rattle.transfer_rules.specs.declared.WriteAnswer.the-variants as wrote
 use Rattle.transfer_rules.specs.declared.WriteCalled.{WriteCalled}
-use Rattle.transfer_rules.specs.Write.{WriteOutcome, writeCall}
+use Rattle.transfer_rules.specs.Write.{writeCall}
 use Rattle.transfer_rules.specs.WriteZero.{wroteNumber, wroteValues}
 use Rattle.transfer_rules.proofs.WriteAnswers as write-answers
 use Rattle.transfer_rules.specs.declared.ReadAnswer.{ReadAnswer}
@@ -42,86 +42,107 @@ use Rattle.call_rules.specs.Interrupt.{interruptNumber}
 use Rattle.host_rules.specs.declared.EventCalled.{EventCalled}
 use Rattle.host_rules.specs.declared.CollectCalled.{CollectCalled}
 use Rattle.host_rules.specs.Host as host
+use Rattle.calls.specs.Calls as calls
+use Rattle.trace_rules.specs.declared.BusEvent.{BusEvent}
+use Rattle.trace_rules.specs.declared.BusEvent.the-variants as bus
 use Rattle.trace_rules.specs.declared.Entry.{Entry}
-use Rattle.trace_rules.specs.declared.Entry.the-variants.{Write, Read, Arrival}
+use Rattle.trace_rules.specs.declared.Entry.the-variants.{Allocate, Init, Reset, Address, Write, Read, Stall, IsStalled, Poll, Interrupt, Enable, Arrival, Collect, Bus, SetupEnd, Underrun, Overrun}
 use Rattle.trace_rules.specs.Entries.{codeOf, Within}
 use Rattle.report_rules.specs.Shown.{Gives, wroteFits, gotFits}
 use Rattle.report_rules.specs.declared.Acted.{Acted}
-use Rattle.report_rules.specs.Act.{state, called, told, allocated, written, fetched, polled, interrupted, happened, arrived, collected, packet, actedOn, acted, Acts}
+use Rattle.report_rules.specs.Act.{state, busOperation, packet, operation, code, left, did, acted, Acts}
+
+-- the code of an entry's line is its operation's
+pub code-is : (s : List ℕ) (e : Entry) (f l : List ℕ) → codeOf e ≡ code (operation s e f l)
+code-is s (Allocate d w t n) f l = refl
+code-is s Init f l = refl
+code-is s Reset f l = refl
+code-is s (Address a) f l = refl
+code-is s (Write e start n) f l = refl
+code-is s (Read e n) f l = refl
+code-is s (Stall e d on) f l = refl
+code-is s (IsStalled e d) f l = refl
+code-is s Poll f l = refl
+code-is s Interrupt f l = refl
+code-is s Enable f l = refl
+code-is s (Arrival e start n) f l = refl
+code-is s (Collect e) f l = refl
+code-is s (Bus bus.Reset) f l = refl
+code-is s (Bus bus.Suspend) f l = refl
+code-is s (Bus bus.Resume) f l = refl
+code-is s SetupEnd f l = refl
+code-is s (Underrun e) f l = refl
+code-is s (Overrun e) f l = refl
 
 handed-on : (s : List ℕ) (start n : ℕ) → take (start + n - start) (drop start s) ≡ packet s start n
 handed-on s start n = ap (λ (m : ℕ). take m (drop start s)) (add-sub-cancel-left start n)
 
 module _ {b a : List ℕ} {r : Acted} {code : ℕ} where
-  -- the entry is e′, and its call left o
-  pub entry : (s : List ℕ) (k : Record) (f l : List ℕ) {f′ l′ : List ℕ} {e e′ : Entry} → e ≡ e′ → code ≡ codeOf e → Acts b a r f′ l′ code (actedOn s e′ k f l)
+  -- the entry is e′
+  pub entry : (s : List ℕ) (k : Record) (f l : List ℕ) {f′ l′ : List ℕ} {e e′ : Entry} → e ≡ e′ → code ≡ codeOf e → Acts b a r f′ l′ code (did (state k f l) (operation s e′ f l))
       → Acts b a r f′ l′ (codeOf e) (acted s e (state k f l))
   unfolding acted
   entry s k f l {f′} {l′} {e} is c p =
-      subst (λ (n : ℕ). Acts b a r f′ l′ n (actedOn s e k f l)) c (subst (λ (x : Entry). Acts b a r f′ l′ code (actedOn s x k f l)) (sym is) p)
+      subst (λ (n : ℕ). Acts b a r f′ l′ n (did (state k f l) (operation s e f l))) c
+      (subst (λ (x : Entry). Acts b a r f′ l′ code (did (state k f l) (operation s x f l))) (sym is) p)
+
+  -- its operation left o, with the memory m
+  by : (m : calls.Outcome → List ℕ × List ℕ) {c o : calls.Outcome} → c ≡ o → Gives b a r code (c .«record») (c .stores) (c .reply) (c .values)
+      → Acts b a r (m c .0) (m c .1) code (left (m o) o)
+  by m {c} e g =
+      subst (λ (o : calls.Outcome). Acts b a r (m c .0) (m c .1) code (left (m o) o)) e
+      (record { kept = λ i. state (g .kept i) (m c .0) (m c .1); counted = g .counted; shown = g .shown })
 
   module _ (f : List ℕ) {l : List ℕ} where
     pub by-called : {x : Called} {o : impl.Outcome} → record { call = x; list = l } ≡ o → Gives b a r code (x .«record») (x .stores) (impl.replyNumber (x .answer)) []
-        → Acts b a r f l code (called f o)
-    by-called e g =
-        subst (λ (o : impl.Outcome). Acts b a r f l code (called f o)) e
-        (record { kept = λ i. state (g .kept i) f l; counted = g .counted; shown = g .shown })
+        → Acts b a r f l code (left (f, o .list) (calls.called o))
+    by-called e g = by (λ o. (f, o .list)) (ap calls.called e) g
 
     pub by-told : {x : StalledCalled} {o : impl-stall.ToldOutcome} → record { call = x; list = l } ≡ o
-        → Gives b a r code (x .«record») (x .stores) (impl-stall.toldNumber (x .answer)) (impl-stall.toldValues (x .answer)) → Acts b a r f l code (told f o)
-    by-told e g =
-        subst (λ (o : impl-stall.ToldOutcome). Acts b a r f l code (told f o)) e
-        (record { kept = λ i. state (g .kept i) f l; counted = g .counted; shown = g .shown })
+        → Gives b a r code (x .«record») (x .stores) (impl-stall.toldNumber (x .answer)) (impl-stall.toldValues (x .answer)) → Acts b a r f l code (left (f, o .list) (calls.told o))
+    by-told e g = by (λ o. (f, o .list)) (ap calls.told e) g
 
     pub by-polled : {x : PollCalled} {o : PollOutcome} → record { result = x; list = l } ≡ o
-        → Gives b a r code (x .«record») (x .stores) (pollNumber (x .answer)) (pollValues (x .answer)) → Acts b a r f l code (polled f o)
-    by-polled e g =
-        subst (λ (o : PollOutcome). Acts b a r f l code (polled f o)) e
-        (record { kept = λ i. state (g .kept i) f l; counted = g .counted; shown = g .shown })
+        → Gives b a r code (x .«record») (x .stores) (pollNumber (x .answer)) (pollValues (x .answer)) → Acts b a r f l code (left (f, o .list) (calls.polled o))
+    by-polled e g = by (λ o. (f, o .list)) (ap calls.polled e) g
 
     pub by-fetched : {x : ReadCalled} {buf : List ℕ} {o : ReadOutcome} → record { result = x; list = l; buf = buf } ≡ o
-        → Gives b a r code (x .«record») (x .stores) (gotNumber (x .answer)) (gotValues (x .answer) buf) → Acts b a r f l code (fetched f o)
-    by-fetched e g =
-        subst (λ (o : ReadOutcome). Acts b a r f l code (fetched f o)) e
-        (record { kept = λ i. state (g .kept i) f l; counted = g .counted; shown = g .shown })
+        → Gives b a r code (x .«record») (x .stores) (gotNumber (x .answer)) (gotValues (x .answer) buf) → Acts b a r f l code (left (f, o .list) (calls.fetched o))
+    by-fetched e g = by (λ o. (f, o .list)) (ap calls.fetched e) g
 
   module _ (f l : List ℕ) where
     pub by-allocated : {x o : AllocCalled} → x ≡ o
-        → Gives b a r code (x .«record») 0 (impl-alloc.allocationNumber (x .answer)) (impl-alloc.allocationValues (x .answer)) → Acts b a r f l code (allocated f l o)
-    by-allocated e g =
-        subst (λ (o : AllocCalled). Acts b a r f l code (allocated f l o)) e
-        (record { kept = λ i. state (g .kept i) f l; counted = g .counted; shown = g .shown })
+        → Gives b a r code (x .«record») 0 (impl-alloc.allocationNumber (x .answer)) (impl-alloc.allocationValues (x .answer)) → Acts b a r f l code (left (f, l) (calls.allocated o))
+    by-allocated e g = by (λ o. (f, l)) (ap calls.allocated e) g
 
-    pub by-interrupted : {x o : InterruptCalled} → x ≡ o → Gives b a r code (x .«record») 0 (interruptNumber (x .answer)) [] → Acts b a r f l code (interrupted f l o)
-    by-interrupted e g =
-        subst (λ (o : InterruptCalled). Acts b a r f l code (interrupted f l o)) e
-        (record { kept = λ i. state (g .kept i) f l; counted = g .counted; shown = g .shown })
+    pub by-interrupted : {x o : InterruptCalled} → x ≡ o → Gives b a r code (x .«record») 0 (interruptNumber (x .answer)) [] → Acts b a r f l code (left (f, l) (calls.interrupted o))
+    by-interrupted e g = by (λ o. (f, l)) (ap calls.interrupted e) g
 
-    pub by-happened : {x o : EventCalled} → x ≡ o → Gives b a r code (x .«record») 0 (host.happenedNumber (x .answer)) [] → Acts b a r f l code (happened f l o)
-    by-happened e g =
-        subst (λ (o : EventCalled). Acts b a r f l code (happened f l o)) e
-        (record { kept = λ i. state (g .kept i) f l; counted = g .counted; shown = g .shown })
+    pub by-happened : {x o : EventCalled} → x ≡ o → Gives b a r code (x .«record») 0 (host.happenedNumber (x .answer)) [] → Acts b a r f l code (left (f, l) (calls.happened o))
+    by-happened e g = by (λ o. (f, l)) (ap calls.happened e) g
+
+    pub by-bus : (k : Record) (x : EventCalled) (e : BusEvent) → calls.happened x ≡ calls.outcome k (busOperation e)
+        → Gives b a r code (x .«record») 0 (host.happenedNumber (x .answer)) [] → Acts b a r f l code (did (state k f l) (busOperation e))
+    by-bus k x bus.Reset e g = by (λ o. (f, l)) e g
+    by-bus k x bus.Suspend e g = by (λ o. (f, l)) e g
+    by-bus k x bus.Resume e g = by (λ o. (f, l)) e g
 
     pub by-collected : {x o : CollectCalled} → x ≡ o → Gives b a r code (x .«record») 0 (host.takenNumber (x .answer)) (host.takenValues (x .answer) f)
-        → Acts b a r f l code (collected f l o)
-    by-collected e g =
-        subst (λ (o : CollectCalled). Acts b a r f l code (collected f l o)) e
-        (record { kept = λ i. state (g .kept i) f l; counted = g .counted; shown = g .shown })
+        → Acts b a r f l code (left (f, l) (calls.collected f o))
+    by-collected e g = by (λ o. (f, l)) (ap (calls.collected f) e) g
 
   -- a packet is handed on as a part of the trace
   module _ (k : Record) (ep : ℕ) (s : List ℕ) (start n : ℕ) (f : List ℕ) {f′ : List ℕ} where
     pub by-written : (l : List ℕ) {l′ : List ℕ} {x : WriteCalled} → record { result = x; fifo = f′; list = l′ } ≡ writeCall k ep (take (start + n - start) (drop start s)) f l
         → Gives b a r code (x .«record») (x .stores) (wroteNumber (x .answer)) (wroteValues (x .answer))
-        → Acts b a r f′ l′ code (written (writeCall k ep (packet s start n) f l))
-    by-written l {l′} e g =
-        subst (λ (o : WriteOutcome). Acts b a r f′ l′ code (written o)) (e ∙ ap (λ (p : List ℕ). writeCall k ep p f l) (handed-on s start n))
-        (record { kept = λ i. state (g .kept i) f′ l′; counted = g .counted; shown = g .shown })
+        → Acts b a r f′ l′ code (did (state k f l) (operation s (Write ep start n) f l))
+    by-written l e g =
+        by (λ o. (o .fifo, o .list)) (ap calls.written (e ∙ ap (λ (p : List ℕ). writeCall k ep p f l) (handed-on s start n))) g
 
     pub by-arrived : (l : List ℕ) {x : EventCalled} → record { event = x; fifo = f′ } ≡ host.arrivalCall k ep (take (start + n - start) (drop start s)) f
-        → Gives b a r code (x .«record») 0 (host.happenedNumber (x .answer)) [] → Acts b a r f′ l code (arrived l (host.arrivalCall k ep (packet s start n) f))
+        → Gives b a r code (x .«record») 0 (host.happenedNumber (x .answer)) [] → Acts b a r f′ l code (did (state k f l) (operation s (Arrival ep start n) f l))
     by-arrived l e g =
-        subst (λ (o : host.Arrival). Acts b a r f′ l code (arrived l o)) (e ∙ ap (λ (p : List ℕ). host.arrivalCall k ep p f) (handed-on s start n))
-        (record { kept = λ i. state (g .kept i) f′ l; counted = g .counted; shown = g .shown })
+        by (λ o. (o .fifo, l)) (ap calls.arrived (e ∙ ap (λ (p : List ℕ). host.arrivalCall k ep p f) (handed-on s start n))) g
 
 -- what `Within` says of the entries that it speaks of
 pub write-within : (s : List ℕ) {e : Entry} {ep start n : ℕ} → e ≡ Write ep start n → Within s e → start + n ≤ length s
@@ -185,6 +206,7 @@ module _ (n : ℕ) (h : n ≤ 512) {z : List ℕ} (is : z ≡ replicate 512 0) w
   pub buffer-short : length (take n z) ≤ 512
   buffer-short = omega (arith, h, buffer-length)
 
-  pub by-read : (k : Record) (ep : ℕ) (f l : List ℕ) {b a l′ : List ℕ} {r : Acted} {code : ℕ} → Acts b a r f l′ code (fetched f (readCall k ep (take n z) f l))
-      → Acts b a r f l′ code (fetched f (readCall k ep (replicate n 0) f l))
-  by-read k ep f l {b} {a} {l′} {r} {code} p = subst (λ (u : List ℕ). Acts b a r f l′ code (fetched f (readCall k ep u f l))) zeros p
+  pub by-read : (k : Record) (ep : ℕ) (f l : List ℕ) {b a l′ : List ℕ} {r : Acted} {code : ℕ} → Acts b a r f l′ code (did (state k f l) (calls.read ep (take n z) f l))
+      → Acts b a r f l′ code (did (state k f l) (calls.read ep (replicate n 0) f l))
+  by-read k ep f l {b} {a} {l′} {r} {code} p =
+      subst (λ (u : List ℕ). Acts b a r f l′ code (did (state k f l) (calls.read ep u f l))) zeros p

@@ -1,26 +1,14 @@
--- What an entry of a trace does: the call or event that it names, by that call's own definition, and document 01's reply and values.
+-- What an entry of a trace does: one of the operations that the demands speak of, whose outcome is said by `calls` alone, and what the entry after
+-- it finds.
 -- Assumes nothing.
-use Prim.Native.Nat.{ℕ, _+_, _≤_}
+use Prim.Native.Nat.{ℕ, _≤_}
 use mathlib.Core.Path.{_≡_}
-use mathlib.Core.List.{List, []}
+use mathlib.Core.List.{List}
 use lib.ListN.{length, take, drop, replicate}
 use Rattle.endpoints.specs.Endpoints.{ask}
 use Rattle.record.specs.declared.Record.{Record}
-use Rattle.call_rules.specs.declared.AllocCalled.{AllocCalled}
-use Rattle.call_rules.specs.Calls as impl
-use Rattle.call_rules.specs.Alloc as impl-alloc
-use Rattle.call_rules.specs.Reset as impl-reset
-use Rattle.call_rules.specs.Stall as impl-stall
-use Rattle.transfer_rules.specs.Write.{WriteOutcome, writeCall}
-use Rattle.transfer_rules.specs.WriteZero.{wroteNumber, wroteValues}
-use Rattle.transfer_rules.specs.Read.{ReadOutcome, readCall}
-use Rattle.transfer_rules.specs.ReadZero.{gotNumber, gotValues}
-use Rattle.round_rules.specs.Poll.{PollOutcome, pollCall, pollNumber, pollValues}
-use Rattle.call_rules.specs.declared.InterruptCalled.{InterruptCalled}
-use Rattle.call_rules.specs.Interrupt.{interruptCall, interruptNumber}
-use Rattle.host_rules.specs.declared.EventCalled.{EventCalled}
-use Rattle.host_rules.specs.declared.CollectCalled.{CollectCalled}
-use Rattle.host_rules.specs.Host as host
+use Rattle.calls.specs.Calls as calls
+use Rattle.calls.specs.Calls.{Op, allocEp, busInit, enable, reset, setDeviceAddress, write, read, setStalled, isStalled, poll, onInterrupt, forceReset, arrival, collection, busReset, suspend, resume, setupEnd, underrun, overrun, outcome}
 use Rattle.trace_rules.specs.declared.BusEvent.{BusEvent}
 use Rattle.trace_rules.specs.declared.BusEvent.the-variants as bus
 use Rattle.trace_rules.specs.declared.Entry.{Entry}
@@ -44,104 +32,92 @@ pub record Outcome : Type 0 where
   pub reply : ℕ
   pub values : List ℕ
 
-abbrev pub called : List ℕ → impl.Outcome → Outcome
-called f o = record {
-  state = state (o .call .«record») f (o .list);
-  stores = o .call .stores;
-  reply = impl.replyNumber (o .call .answer);
-  values = [];
-}
-
-abbrev pub told : List ℕ → impl-stall.ToldOutcome → Outcome
-told f o = record {
-  state = state (o .call .«record») f (o .list);
-  stores = o .call .stores;
-  reply = impl-stall.toldNumber (o .call .answer);
-  values = impl-stall.toldValues (o .call .answer);
-}
-
--- a call that is lent no list stores nothing
-abbrev pub allocated : List ℕ → List ℕ → AllocCalled → Outcome
-allocated f l o = record {
-  state = state (o .«record») f l;
-  stores = 0;
-  reply = impl-alloc.allocationNumber (o .answer);
-  values = impl-alloc.allocationValues (o .answer);
-}
-
-abbrev pub written : WriteOutcome → Outcome
-written o = record {
-  state = state (o .result .«record») (o .fifo) (o .list);
-  stores = o .result .stores;
-  reply = wroteNumber (o .result .answer);
-  values = wroteValues (o .result .answer);
-}
-
-abbrev pub fetched : List ℕ → ReadOutcome → Outcome
-fetched f o = record {
-  state = state (o .result .«record») f (o .list);
-  stores = o .result .stores;
-  reply = gotNumber (o .result .answer);
-  values = gotValues (o .result .answer) (o .buf);
-}
-
-abbrev pub polled : List ℕ → PollOutcome → Outcome
-polled f o = record {
-  state = state (o .result .«record») f (o .list);
-  stores = o .result .stores;
-  reply = pollNumber (o .result .answer);
-  values = pollValues (o .result .answer);
-}
-
-abbrev pub interrupted : List ℕ → List ℕ → InterruptCalled → Outcome
-interrupted f l o = record { state = state (o .«record») f l; stores = 0; reply = interruptNumber (o .answer); values = [] }
-
-abbrev pub happened : List ℕ → List ℕ → EventCalled → Outcome
-happened f l o = record { state = state (o .«record») f l; stores = 0; reply = host.happenedNumber (o .answer); values = [] }
-
-abbrev pub arrived : List ℕ → host.Arrival → Outcome
-arrived l o = happened (o .fifo) l (o .event)
-
-abbrev pub collected : List ℕ → List ℕ → CollectCalled → Outcome
-collected f l o = record {
-  state = state (o .«record») f l;
-  stores = 0;
-  reply = host.takenNumber (o .answer);
-  values = host.takenValues (o .answer) f;
-}
-
 -- "14 bus (0 reset 1 suspend 2 resume)"
-abbrev pub busCall : Record → BusEvent → EventCalled
-busCall k bus.Reset = host.busResetCall k
-busCall k bus.Suspend = host.suspendCall k
-busCall k bus.Resume = host.resumeCall k
+abbrev pub busOperation : BusEvent → Op
+busOperation bus.Reset = busReset
+busOperation bus.Suspend = suspend
+busOperation bus.Resume = resume
 
 -- a packet's bytes, which stand in the trace
 abbrev pub packet : List ℕ → ℕ → ℕ → List ℕ
 packet s start n = take n (drop start s)
 
--- an entry of the trace s. A read is lent a buffer of its length, all zeros.
-abbrev pub actedOn : List ℕ → Entry → Record → List ℕ → List ℕ → Outcome
-actedOn s (Allocate d w t n) k f l = allocated f l (impl-alloc.allocEpCall k (ask t d n) w)
-actedOn s Init k f l = called f (impl.busInitCall k l)
-actedOn s Reset k f l = called f (impl-reset.resetCall k l)
-actedOn s (Address a) k f l = called f (impl.addressCall k a l)
-actedOn s (Write e start n) k f l = written (writeCall k e (packet s start n) f l)
-actedOn s (Read e n) k f l = fetched f (readCall k e (replicate n 0) f l)
-actedOn s (Stall e d on) k f l = called f (impl-stall.setStalledCall k e d on l)
-actedOn s (IsStalled e d) k f l = told f (impl-stall.isStalledCall k e d l)
-actedOn s Poll k f l = polled f (pollCall k l)
-actedOn s Interrupt k f l = interrupted f l (interruptCall k)
-actedOn s Enable k f l = called f (impl.enableCall k l)
-actedOn s (Arrival e start n) k f l = arrived l (host.arrivalCall k e (packet s start n) f)
-actedOn s (Collect e) k f l = collected f l (host.collectionCall k e f)
-actedOn s (Bus b) k f l = happened f l (busCall k b)
-actedOn s SetupEnd k f l = happened f l (host.setupEndCall k)
-actedOn s (Underrun e) k f l = happened f l (host.underrunCall k e)
-actedOn s (Overrun e) k f l = happened f l (host.overrunCall k e)
+-- The operation of an entry of the trace s, lent FIFO memory f and the list l. A read is lent a buffer of its length, all zeros.
+abbrev pub operation : List ℕ → Entry → List ℕ → List ℕ → Op
+operation s (Allocate d w t n) f l = allocEp (ask t d n) w
+operation s Init f l = busInit l
+operation s Reset f l = reset l
+operation s (Address a) f l = setDeviceAddress a l
+operation s (Write e start n) f l = write e (packet s start n) f l
+operation s (Read e n) f l = read e (replicate n 0) f l
+operation s (Stall e d on) f l = setStalled e d on l
+operation s (IsStalled e d) f l = isStalled e d l
+operation s Poll f l = poll l
+operation s Interrupt f l = onInterrupt
+operation s Enable f l = enable l
+operation s (Arrival e start n) f l = arrival e (packet s start n) f
+operation s (Collect e) f l = collection e f
+operation s (Bus b) f l = busOperation b
+operation s SetupEnd f l = setupEnd
+operation s (Underrun e) f l = underrun e
+operation s (Overrun e) f l = overrun e
+
+-- Document 01's codes, by operation. `force_reset` has none.
+abbrev pub code : Op → ℕ
+code (allocEp q w) = 1
+code (busInit l) = 2
+code (reset l) = 3
+code (setDeviceAddress a l) = 4
+code (write e b f l) = 5
+code (read e b f l) = 6
+code (setStalled e d on l) = 7
+code (isStalled e d l) = 8
+code (poll l) = 9
+code onInterrupt = 10
+code (enable l) = 11
+code (arrival e b f) = 12
+code (collection e f) = 13
+code busReset = 14
+code suspend = 14
+code resume = 14
+code setupEnd = 15
+code (underrun e) = 16
+code (overrun e) = 17
+code forceReset = 0
+
+-- FIFO memory and the list after an operation: as it left them where it was lent them to write, and else as they were
+abbrev pub memory : State → Op → calls.Outcome → List ℕ × List ℕ
+memory x (allocEp q w) o = (x .fifo, x .list)
+memory x (busInit l) o = (x .fifo, o .list)
+memory x (enable l) o = (x .fifo, o .list)
+memory x (reset l) o = (x .fifo, o .list)
+memory x (setDeviceAddress a l) o = (x .fifo, o .list)
+memory x (write e b f l) o = (o .fifo, o .list)
+memory x (read e b f l) o = (x .fifo, o .list)
+memory x (setStalled e d on l) o = (x .fifo, o .list)
+memory x (isStalled e d l) o = (x .fifo, o .list)
+memory x (poll l) o = (x .fifo, o .list)
+memory x onInterrupt o = (x .fifo, x .list)
+memory x forceReset o = (x .fifo, x .list)
+memory x (arrival e b f) o = (o .fifo, x .list)
+memory x (collection e f) o = (x .fifo, x .list)
+memory x busReset o = (x .fifo, x .list)
+memory x suspend o = (x .fifo, x .list)
+memory x resume o = (x .fifo, x .list)
+memory x setupEnd o = (x .fifo, x .list)
+memory x (underrun e) o = (x .fifo, x .list)
+memory x (overrun e) o = (x .fifo, x .list)
+
+-- of the operation's outcome o, with the memory m after it
+abbrev pub left : List ℕ × List ℕ → calls.Outcome → Outcome
+left m o = record { state = state (o .«record») (m .0) (m .1); stores = o .stores; reply = o .reply; values = o .values }
+
+-- the operation p in the state x
+abbrev pub did : State → Op → Outcome
+did x p = left (memory x p (outcome (x .«record») p)) (outcome (x .«record») p)
 
 unfoldable pub acted : List ℕ → Entry → State → Outcome
-acted s e x = actedOn s e (x .«record») (x .fifo) (x .list)
+acted s e x = did x (operation s e (x .fifo) (x .list))
 
 -- what the program has of an entry, f and l being the FIFO buffer and the list at exit
 pub record Acts (before after : List ℕ) (r : Acted) (f l : List ℕ) (code : ℕ) (o : Outcome) : Type 0 where

@@ -8,8 +8,8 @@ ghost use mathlib.Core.Path.{_≡_};
 ghost use Prim.Native.Nat.{_≤_};
 ghost use lib.ListN.{length, replicate};
 ghost use Rattle.trace_rules.specs.Entries.{codeOf, Within};
-ghost use Rattle.transfer_rules.specs.Read.{readCall};
-ghost use Rattle.report_rules.specs.Act.{state, acted, fetched, busCall, Acts, Lent};
+ghost use Rattle.calls.specs.Calls as calls;
+ghost use Rattle.report_rules.specs.Act.{state, busOperation, did, acted, Acts, Lent};
 
 // The longest buffer that an entry can ask a read for.
 fn zeros() -> [u8; 512]
@@ -28,7 +28,7 @@ fn fetch(
     code: u8,
 ) -> Acted
     requires { ⌜ (length (now buf) ≤ 512) × (length (now fifo) ≤ 2000) × (8192 ≤ length (now line)) ⌝ }
-    ensures { λ r. ⌜ Acts (now (line .entry)) (now (line .exit)) r (now (fifo .entry)) (now (list .exit)) code (fetched (now (fifo .entry)) (readCall k ep (now (buf .entry)) (now (fifo .entry)) (now (list .entry)))) ⌝ }
+    ensures { λ r. ⌜ Acts (now (line .entry)) (now (line .exit)) r (now (fifo .entry)) (now (list .exit)) code (did (state k (now (fifo .entry)) (now (list .entry))) (calls.read ep (now (buf .entry)) (now (fifo .entry)) (now (list .entry)))) ⌝ }
 {
     let o = usb_device_read::read(k, ep, buf, fifo, list);
     trace_answers::got(line, code, o, buf)
@@ -45,7 +45,7 @@ fn read(
     code: u8,
 ) -> Acted
     requires { ⌜ (n ≤ 512) × (length (now fifo) ≤ 2000) × (8192 ≤ length (now line)) ⌝ }
-    ensures { λ r. ⌜ Acts (now (line .entry)) (now (line .exit)) r (now (fifo .entry)) (now (list .exit)) code (fetched (now (fifo .entry)) (readCall k ep (replicate n 0) (now (fifo .entry)) (now (list .entry)))) ⌝ }
+    ensures { λ r. ⌜ Acts (now (line .entry)) (now (line .exit)) r (now (fifo .entry)) (now (list .exit)) code (did (state k (now (fifo .entry)) (now (list .entry))) (calls.read ep (replicate n 0) (now (fifo .entry)) (now (list .entry)))) ⌝ }
 {
     let mut buf = zeros();
     let m = n as usize;
@@ -53,7 +53,7 @@ fn read(
 }
 
 fn bus(k: Record, b: BusEvent) -> EventCalled
-    ensures { λ r. ⌜ r ≡ busCall k b ⌝ }
+    ensures { λ r. ⌜ calls.happened r ≡ calls.outcome k (busOperation b) ⌝ }
 {
     match b {
         BusEvent::Reset => host::bus_reset(k),

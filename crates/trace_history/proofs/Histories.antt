@@ -7,10 +7,7 @@ use mathlib.Core.List.{List, [], _∷_, _++_, foldl, foldl-append, append-nil, a
 use borrow.Author.Tests.{le-leb}
 use lib.ListN.{length, take, length-append}
 use lib.Seq.{take-at}
-use Rattle.record.specs.declared.Record.{Record}
-use Rattle.trace_rules.specs.declared.BusEvent.the-variants as bus
 use Rattle.trace_rules.specs.declared.Entry.{Entry}
-use Rattle.trace_rules.specs.declared.Entry.the-variants.{Allocate, Init, Reset, Address, Write, Read, Stall, IsStalled, Poll, Interrupt, Enable, Arrival, Collect, Bus, SetupEnd, Underrun, Overrun}
 use Rattle.trace_rules.specs.declared.Parsed.{Parsed}
 use Rattle.trace_rules.specs.declared.Parsed.the-variants.{Found, End, Bad}
 use Rattle.trace_rules.specs.Entries.{entryAt}
@@ -18,35 +15,14 @@ use Rattle.trace_rules.proofs.Inside.{moves}
 use Rattle.calls.specs.Calls as calls
 use Rattle.trace_rules.specs.Lines.{line, header}
 use Rattle.trace_rules.proofs.Appended.{front}
-use Rattle.report_rules.specs.Act.{State, state, acted}
+use Rattle.report_rules.specs.Act.{State, state, operation, acted}
 use Rattle.report_rules.specs.declared.Came.the-variants.{Line}
 use Rattle.report_rules.specs.declared.Stepped.{Stepped}
 use Rattle.report_rules.specs.Report.{lineOf, reportBy, reportFrom, restOf, reportFor, StepOutcome, stepped, stepBy, stepOf}
 use Rattle.report_rules.specs.Runs.{Took, Reached, begins, goes}
+use Rattle.report_rules.proofs.Act.{code-is}
 use Rattle.report_rules.proofs.Whole.{line-not-end, line-not-bad}
-use Rattle.trace_history.specs.Operations.{operation}
-use Rattle.trace_history.specs.History.{entriesBy, entriesFrom, entriesOf, after, operationsFrom, operationsOf, lineFor, linesOf, lastBy, lastFrom, lastOf, Same, Along}
-
-pub same : (s : List ℕ) (e : Entry) (k : Record) (f l : List ℕ) → Same s e k f l
-same s (Allocate d w t n) k f l = record { code-is = refl; reply = refl; values-are = refl; stores = refl; state-is = refl }
-same s Init k f l = record { code-is = refl; reply = refl; values-are = refl; stores = refl; state-is = refl }
-same s Reset k f l = record { code-is = refl; reply = refl; values-are = refl; stores = refl; state-is = refl }
-same s (Address a) k f l = record { code-is = refl; reply = refl; values-are = refl; stores = refl; state-is = refl }
-same s (Write e start n) k f l = record { code-is = refl; reply = refl; values-are = refl; stores = refl; state-is = refl }
-same s (Read e n) k f l = record { code-is = refl; reply = refl; values-are = refl; stores = refl; state-is = refl }
-same s (Stall e d on) k f l = record { code-is = refl; reply = refl; values-are = refl; stores = refl; state-is = refl }
-same s (IsStalled e d) k f l = record { code-is = refl; reply = refl; values-are = refl; stores = refl; state-is = refl }
-same s Poll k f l = record { code-is = refl; reply = refl; values-are = refl; stores = refl; state-is = refl }
-same s Interrupt k f l = record { code-is = refl; reply = refl; values-are = refl; stores = refl; state-is = refl }
-same s Enable k f l = record { code-is = refl; reply = refl; values-are = refl; stores = refl; state-is = refl }
-same s (Arrival e start n) k f l = record { code-is = refl; reply = refl; values-are = refl; stores = refl; state-is = refl }
-same s (Collect e) k f l = record { code-is = refl; reply = refl; values-are = refl; stores = refl; state-is = refl }
-same s (Bus bus.Reset) k f l = record { code-is = refl; reply = refl; values-are = refl; stores = refl; state-is = refl }
-same s (Bus bus.Suspend) k f l = record { code-is = refl; reply = refl; values-are = refl; stores = refl; state-is = refl }
-same s (Bus bus.Resume) k f l = record { code-is = refl; reply = refl; values-are = refl; stores = refl; state-is = refl }
-same s SetupEnd k f l = record { code-is = refl; reply = refl; values-are = refl; stores = refl; state-is = refl }
-same s (Underrun e) k f l = record { code-is = refl; reply = refl; values-are = refl; stores = refl; state-is = refl }
-same s (Overrun e) k f l = record { code-is = refl; reply = refl; values-are = refl; stores = refl; state-is = refl }
+use Rattle.trace_history.specs.History.{entriesBy, entriesFrom, entriesOf, after, operationsFrom, operationsOf, lineFor, linesOf, lastBy, lastFrom, lastOf, Along}
 
 -- an entry's operation, and its line
 abbrev its : List ℕ → Entry → State → calls.Op
@@ -55,11 +31,11 @@ its s e x = operation s e (x .fifo) (x .list)
 module _ (s : List ℕ) (e : Entry) (x : State) where
   leads-on : acted s e x .state ≡ after x (its s e x)
   unfolding acted
-  leads-on = same s e (x .«record») (x .fifo) (x .list) .state-is
+  leads-on = refl
 
   prints : lineOf e (acted s e x) ≡ lineFor x (its s e x)
   unfolding acted lineOf
-  prints = let o = same s e (x .«record») (x .fifo) (x .list) in λ i. line (o .code-is i ∷ o .reply i ∷ o .values-are i)
+  prints = λ i. line (code-is s e (x .fifo) (x .list) i ∷ acted s e x .reply ∷ acted s e x .values)
 
 -- The report is the lines of the trace's operations, and the last line.
 reports : (m : ℕ) (s : List ℕ) (at n : ℕ) (x : State) → reportFrom m s at n x ≡ linesOf x (operationsFrom s (entriesFrom m s at) x) ++ lastFrom m s at n
@@ -83,33 +59,10 @@ report-is x s short =
     let all : length s - 0 ≡ length s = omega arith in
     rw (le-leb _ _ short) (ap (λ (m : ℕ). header ++ reportFrom (suc m) s 0 0 x) all ∙ ap (λ (t : List ℕ). header ++ t) (reports (suc (length s)) s 0 0 x))
 
--- an operation's record is that of a history
-step-is : (x : State) (o : calls.Op) → after x o .«record» ≡ calls.step (x .«record») o
-step-is x (calls.allocEp q w) = refl
-step-is x (calls.busInit l) = refl
-step-is x (calls.enable l) = refl
-step-is x (calls.reset l) = refl
-step-is x (calls.setDeviceAddress a l) = refl
-step-is x (calls.write e b f l) = refl
-step-is x (calls.read e b f l) = refl
-step-is x (calls.setStalled e d on l) = refl
-step-is x (calls.isStalled e d l) = refl
-step-is x (calls.poll l) = refl
-step-is x calls.onInterrupt = refl
-step-is x calls.forceReset = refl
-step-is x (calls.arrival e b f) = refl
-step-is x (calls.collection e f) = refl
-step-is x calls.busReset = refl
-step-is x calls.suspend = refl
-step-is x calls.resume = refl
-step-is x calls.setupEnd = refl
-step-is x (calls.underrun e) = refl
-step-is x (calls.overrun e) = refl
-
 -- the record that operations lead to, and their lines, one list after another
 records : (x : State) (os : List calls.Op) → foldl after x os .«record» ≡ foldl calls.step (x .«record») os
 records x [] = refl
-records x (o ∷ os) = records (after x o) os ∙ ap (λ (k : Record). foldl calls.step k os) (step-is x o)
+records x (o ∷ os) = records (after x o) os
 
 lines-append : (x : State) (os qs : List calls.Op) → linesOf x (os ++ qs) ≡ linesOf x os ++ linesOf (foldl after x os) qs
 unfolding linesOf

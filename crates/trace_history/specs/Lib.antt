@@ -1,2 +1,1 @@
-pub mod Operations
 pub mod History

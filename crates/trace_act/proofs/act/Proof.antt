@@ -1,7 +1,7 @@
 -- `trace_act::act` meets its contract.
 -- Assumes nothing.
 use denote.Ref.{now}
-use Rattle.report_rules.proofs.Act.{entry, by-called, by-told, by-polled, by-allocated, by-interrupted, by-happened, by-collected, by-written, by-arrived, write-within, arrival-within, read-within, wrote-fits}
+use Rattle.report_rules.proofs.Act.{entry, by-called, by-told, by-polled, by-allocated, by-interrupted, by-happened, by-bus, by-collected, by-written, by-arrived, write-within, arrival-within, read-within, wrote-fits}
 use native.Mathlib.Omega.{arith}
 use borrow.Author.Needs.{needs}
 use Rattle.trace_act.proofs.act.Statement.{statement}
@@ -315,7 +315,10 @@ same-length-27 : tie.Need-same-length-27
 same-length-27 c = search needs
 
 returns-14 : tie.Need-returns-14
-returns-14 c = entry _ _ _ _ (c .before .before .before .before .before .before .e9 .given .1) (c .before .before .before .before .before .before .before .before .code-of .ensures) (by-happened _ _ (c .before .before .before .bus .ensures) (c .before .before .happened2 .ensures))
+returns-14 c =
+    let a = c .before .before .before .before .before .before .before .before .before .before .before .before .before .args in
+    let p = c .before .before .before .before .before .before .e9 .given in
+    entry _ _ _ _ (p .1) (c .before .before .before .before .before .before .before .before .code-of .ensures) (by-bus _ _ (a .k) (c .before .before .before .bus .result) (p .0 .0) (c .before .before .before .bus .ensures) (c .before .before .happened2 .ensures))
 
 same-length-28 : tie.Need-same-length-28
 same-length-28 c = search needs

@@ -1,5 +1,7 @@
 -- `trace_act::bus` meets its contract.
 -- Assumes nothing.
+use mathlib.Core.Path.{ap}
+use Rattle.calls.specs.Calls as calls
 use borrow.Author.Needs.{needs}
 use Rattle.trace_act.proofs.bus.Statement.{statement}
 use Rattle.trace_act.proofs.bus.Tie as tie
@@ -23,13 +25,13 @@ resume-requires : tie.Need-resume-requires
 resume-requires c κs = search needs
 
 returns : tie.Need-returns
-returns c = rw (c .before .enum-told .given .1) (c .bus-reset .ensures)
+returns c = rw (c .before .enum-told .given .1) (ap calls.happened (c .bus-reset .ensures))
 
 returns-2 : tie.Need-returns-2
-returns-2 c = rw (c .before .enum-told2 .given .1) (c .suspend .ensures)
+returns-2 c = rw (c .before .enum-told2 .given .1) (ap calls.happened (c .suspend .ensures))
 
 returns-3 : tie.Need-returns-3
-returns-3 c = rw (c .before .enum-told3 .given .1) (c .resume .ensures)
+returns-3 c = rw (c .before .enum-told3 .given .1) (ap calls.happened (c .resume .ensures))
 
 pub bus-spec : {M : Type 1} → statement M
 bus-spec =
