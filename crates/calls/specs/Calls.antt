@@ -66,13 +66,13 @@ called o = record {
 }
 
 abbrev pub told : impl-stall.ToldOutcome → Outcome
-told o = record {
-  reply = impl-stall.toldNumber (o .call .answer);
-  values = impl-stall.toldValues (o .call .answer);
-  «record» = o .call .«record»;
-  stores = o .call .stores;
+told t = record {
+  reply = impl-stall.toldNumber (t .call .answer);
+  values = impl-stall.toldValues (t .call .answer);
+  «record» = t .call .«record»;
+  stores = t .call .stores;
   fifo = [];
-  list = o .list;
+  list = t .list;
   buf = [];
 }
 
@@ -111,13 +111,13 @@ fetched o = record {
 }
 
 abbrev pub polled : PollOutcome → Outcome
-polled o = record {
-  reply = pollNumber (o .result .answer);
-  values = pollValues (o .result .answer);
-  «record» = o .result .«record»;
-  stores = o .result .stores;
+polled p = record {
+  reply = pollNumber (p .result .answer);
+  values = pollValues (p .result .answer);
+  «record» = p .result .«record»;
+  stores = p .result .stores;
   fifo = [];
-  list = o .list;
+  list = p .list;
   buf = [];
 }
 
