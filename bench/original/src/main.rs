@@ -1,5 +1,5 @@
 //! The calls whose instructions bench/ counts, on the original. Standard input has three bytes: the case, a
-//! letter as in crates/speed/src/main.rt; how often its call is made, the digit 1 or 2; and the endpoint
+//! letter as in crates/run_speed/src/main.rt; how often its call is made, the digit 1 or 2; and the endpoint
 //! that packets go to, a digit too, so that no compiler knows it beforehand. Everything else is the same in
 //! both runs, and one call is what they differ by. What the last call stored is printed.
 

@@ -15,7 +15,7 @@ use Rattle.call_rules.specs.Calls.{Outcome, begun}
 abbrev pub logOf : Outcome → Log
 logOf o = log (o .call .«record» .regs .words) (o .list) (o .call .stores)
 
--- the packets, the registers and the list as specs/Stalling.antt of common_impl has them; "if index == 0 { if stalled { .. } }": the transfer of
+-- the packets, the registers and the list as specs/Stalling.antt of common_rules has them; "if index == 0 { if stalled { .. } }": the transfer of
 -- endpoint 0 is over; nothing else of the record changes
 pub record SetStalled (k : Record) (e : ℕ) (d : Direction) (stalled : Bool) (l : List ℕ) (o : Outcome) : Type 0 where
   pub other : (e ≡ 0 → ⊥) → Stalls d e stalled (begun k l) (logOf o)

@@ -26,16 +26,11 @@ use Rattle.event_rules.proofs.Promises as promised
 use Rattle.record.specs.declared.Record.{Record}
 use Rattle.call_rules.specs.Interrupt.{interrupted, interruptCall}
 use Rattle.calls.specs.Calls.{Op, step}
-use Rattle.calls.specs.Kept.{Good, Stores}
+use Rattle.calls.specs.Kept.{Good, Stores, Lasting}
 use Rattle.calls.proofs.Steps.{one, sent, Reached, none, then, within, Sane, Holds, within-six, holds}
 use Rattle.calls.proofs.Accounts.{Account, sane}
 use Rattle.calls.proofs.Happening.{Happens, refused, happened, cleared-side}
 use Rattle.calls.proofs.Kept.{to-holds, Interrupts, refused as not-taken, taken, on-interrupt, Accounted, gentle, stalling, event, interrupt, account}
-
--- Of a side before and after a change: a packet that is there after it was there before, and was as long.
-pub record Lasting (s t : Side) : Type 0 where
-  pub was : t .ready ≡ true → s .ready ≡ true
-  pub len : t .ready ≡ true → t .len ≡ s .len
 
 same : {s : Side} → Lasting s s
 same = record { was = λ p. p; len = λ p. refl }

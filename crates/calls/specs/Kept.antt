@@ -2,9 +2,10 @@
 -- Assumes nothing.
 use Prim.Native.Nat.{ℕ}
 use mathlib.Core.Path.{_≡_}
-use mathlib.Core.Bool.{Bool, not, _&&_}
+use mathlib.Core.Bool.{true, Bool, not, _&&_}
 use Rattle.board.specs.declared.Direction.{Direction}
 use Rattle.board.specs.declared.Direction.the-variants.{Out}
+use Rattle.csr.specs.declared.Side.{Side}
 use Rattle.register_file.specs.Registers.{Whole, intrusb, intrOf, sideAt}
 use Rattle.store_rules.specs.Promise.{SameHalts}
 use Rattle.record.specs.declared.Record.{Record}
@@ -74,3 +75,8 @@ SparesHalts k o = (WritesStall o → ⊥) → SameHalts (k .regs .words) (step k
 -- of the packets that wait to be read at endpoints 1 to 5 of k, those are gone in q whose endpoint passes a test; no other came or went
 pub record Remain (gone : ℕ → Bool) (k q : Record) : Type 0 where
   pub ready : (e : ℕ) → (e ≡ 0 → ⊥) → sideAt (q .regs .words) e Out .ready ≡ (sideAt (k .regs .words) e Out .ready && not (gone e))
+
+-- Of a side before and after a change: a packet that is there after it was there before, and was as long.
+pub record Lasting (s t : Side) : Type 0 where
+  pub was : t .ready ≡ true → s .ready ≡ true
+  pub len : t .ready ≡ true → t .len ≡ s .len

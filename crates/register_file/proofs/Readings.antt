@@ -49,10 +49,6 @@ module _ (r : File) where
   unfolding rxcount
   rx-count = refl
 
-  pub zero-ended : csr0lRead r .«setup_end» ≡ setupend r
-  unfolding csr0lRead
-  zero-ended = refl
-
 -- CSR0L reads endpoint 0's sides and SetupEnd, and nothing else
 pub same-csr0l : (r q : File) → sideAt q 0 In ≡ sideAt r 0 In → sideAt q 0 Out ≡ sideAt r 0 Out → setupend q ≡ setupend r → csr0lRead q ≡ csr0lRead r
 unfolding csr0lRead

@@ -33,7 +33,7 @@ ofChip r =
     ∷ []
 
 -- what TXCSRL and RXCSRL read with an endpoint selected: what is read of its sides. That a selection gives the same is `selected-tx` and
--- `selected-rx` of proofs/Selected.antt.
+-- `selected-rx` of proofs/DetailSelected.antt.
 unfoldable pub txcsrlAt : File → ℕ → ℕ
 txcsrlAt r e = txcsrlNumber (txcsrlOf (sideAt r e In))
 

@@ -68,7 +68,3 @@ maxp Out = RXMAXP
 abbrev pub intre : Direction → ℕ
 intre In = INTRTXE
 intre Out = INTRRXE
-
--- "An index store has the new number in both places."
-unfoldable pub selectListed : List ℕ → ℕ → ℕ → List ℕ
-selectListed l n e = listed l n INDEX e e

@@ -1,5 +1,5 @@
 // The entries of an event trace: a code, its arguments, each in its range (document 01, 'Event trace').
-// Every number goes through `trace_reader::number_from`. A packet stays in the trace: an entry holds its start and its length.
+// Every number goes through `trace_reader::number_from` or, of a pair, `two_from`. A packet stays in the trace: an entry holds its start and its length.
 use trace_rules::Arg;
 use trace_rules::Entry;
 use trace_rules::Held;

@@ -16,12 +16,7 @@ use Rattle.trace_rules.specs.declared.Arg.{Arg}
 use Rattle.trace_rules.specs.declared.Arg.the-variants.{Got, No}
 use Rattle.trace_rules.specs.declared.Two.{Two}
 use Rattle.trace_rules.specs.declared.Two.the-variants.{Both, Neither}
-use Rattle.trace_rules.specs.Arguments.{argAt, inRange, twoAt}
-
-pub record Ranged (s : List ℕ) (at most a past : ℕ) : Type 0 where
-  pub range : a ≤ most
-  pub on : at < past
-  pub inside : past ≤ length s
+use Rattle.trace_rules.specs.Arguments.{argAt, inRange, twoAt, Ranged, RangedTwo}
 
 module _ (s : List ℕ) (at most a past : ℕ) where
   tested : (n m : ℕ) (b : Bool) → leb n most ≡ b → numberAt s at ≡ Value n m → cond b (Got n m) No ≡ Got a past → Ranged s at most a past
@@ -39,12 +34,6 @@ module _ (s : List ℕ) (at most a past : ℕ) where
   pub ranged : argAt s at most ≡ Got a past → Ranged s at most a past
   unfolding argAt
   ranged q = ranged-of (numberAt s at) refl q
-
-pub record RangedTwo (s : List ℕ) (at m n a b past : ℕ) : Type 0 where
-  pub first : a ≤ m
-  pub second : b ≤ n
-  pub on : at < past
-  pub inside : past ≤ length s
 
 module _ (s : List ℕ) (at m n a b past : ℕ) where
   two-of : (x y : Arg) (c mid : ℕ) → argAt s at m ≡ x → x ≡ Got c mid → argAt s mid n ≡ y → twoAt s at m n ≡ Both a b past → RangedTwo s at m n a b past

@@ -1,9 +1,10 @@
 -- The arguments of an entry: numbers of the trace, each in its range, and what they stand for.
 -- Assumes nothing.
-use Prim.Native.Nat.{ℕ, _-_}
+use Prim.Native.Nat.{ℕ, _-_, _<_, _≤_}
 use mathlib.Core.List.{List}
 use mathlib.Core.Bool.{Bool, cond}
 use lib.Dec.{leb, eqb}
+use lib.ListN.{length}
 use Rattle.trace_rules.specs.declared.Number.{Number}
 use Rattle.trace_rules.specs.declared.Number.the-variants.{Value, Bad}
 use Rattle.trace_rules.specs.Groups.{numberAt}
@@ -59,3 +60,15 @@ busOf n = cond (eqb n 0) Reset (cond (eqb n 1) Suspend Resume)
 -- "0 or 1"
 abbrev pub flagOf : ℕ → Bool
 flagOf n = eqb n 1
+
+-- an argument that was read is in its range, past its place, and inside the trace; and two of them
+pub record Ranged (s : List ℕ) (at most a past : ℕ) : Type 0 where
+  pub range : a ≤ most
+  pub on : at < past
+  pub inside : past ≤ length s
+
+pub record RangedTwo (s : List ℕ) (at m n a b past : ℕ) : Type 0 where
+  pub first : a ≤ m
+  pub second : b ≤ n
+  pub on : at < past
+  pub inside : past ≤ length s

@@ -1,10 +1,10 @@
 //! Carries out a script of single stores, host events and reads on the register model alone, without the
 //! original's calls, and prints after each what it read, what it listed and the record. The script and its
-//! output stand in `crates/model`, whose program does the same with the port's model.
+//! output stand in `crates/run_model`, whose program does the same with the port's model.
 //!
 //! The script begins with 768 bytes that count up, which packets are taken from. A step is five bytes: what is
 //! done, an endpoint (or an address), a number (low byte first), and the place of a packet's first byte.
-//! `crates/model/make` has the names of the steps.
+//! `crates/run_model/make` has the names of the steps.
 
 use musb_oracle::machine::Machine;
 use musb_oracle::model::{BusEvent, Chip, Model};
