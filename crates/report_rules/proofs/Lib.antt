@@ -2,13 +2,3 @@ pub mod Shown
 pub mod Act
 pub mod Steps
 pub mod Whole
-pub mod DetailCounted
-pub mod DetailExamples
-pub mod DetailSelected
-pub mod DetailWritten
-pub mod GivenBack
-pub mod GivenBytes
-pub mod GivenEver
-pub mod GivenFile
-pub mod GivenMade
-pub mod GivenNumbers

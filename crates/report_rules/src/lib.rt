@@ -1,5 +1,5 @@
-// What an entry of a trace does and what is reported of it, a step, the whole report, the detail report's two lines, as definitions (specs/);
-// and what they come to, as laws (proofs/). No function: trace_answers, trace_act, trace_step and trace_details have them.
+// What an entry of a trace does and what is reported of it, a step, the whole report, as definitions (specs/); and what they come to, as laws
+// (proofs/). No function: trace_answers, trace_act and trace_step have them.
 use record::Record;
 
 // The record, how many stores stand in the list, and how long the line is.

@@ -10,8 +10,8 @@ ghost use mathlib.Core.List.{_++_};
 ghost use Prim.Native.Nat.{_+_, _*_, _≤_, _<_};
 ghost use lib.ListN.{length};
 ghost use Rattle.trace_rules.specs.Text.{Wrote, fields};
-ghost use Rattle.report_rules.specs.DetailLines.{store, stores, storesLine, recordLine};
-ghost use Rattle.report_rules.specs.DetailNumbers.{ofChip, shownAt, lengthsAt, ofData, ofEndpoint, ofEndpoints, ofFlags};
+ghost use Rattle.detail_rules.specs.DetailLines.{store, stores, storesLine, recordLine};
+ghost use Rattle.detail_rules.specs.DetailNumbers.{ofChip, shownAt, lengthsAt, ofData, ofEndpoint, ofEndpoints, ofFlags};
 
 fn wide(x: u16) -> u32
     ensures { λ r. ⌜ (r ≡ x) × (r < 65536) ⌝ }

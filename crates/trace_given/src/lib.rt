@@ -1,5 +1,5 @@
 // A record from the 96 numbers that a detail report prints of it, each in four bytes, low byte first: where the comparison of single
-// calls begins. Promised: the record is `recordOf` of the numbers (report_rules, specs/Given.antt), and a report prints these numbers of it,
+// calls begins. Promised: the record is `recordOf` of the numbers (detail_rules, specs/Given.antt), and a report prints these numbers of it,
 // whatever the record was whose numbers they are (`back` and `again` there). Of numbers that no report prints, a word keeps 16 bits, a control
 // register the bits that it reads, and a mark is 1 or not.
 use board::Board;
@@ -16,7 +16,7 @@ use register_file::Regs;
 ghost use mathlib.Core.Path.{_≡_};
 ghost use Prim.Native.Nat.{_+_, _≤_, _<_};
 ghost use lib.ListN.{getD};
-ghost use Rattle.report_rules.specs.Given.{numbersOf, longAt, wordAt, truthAt, withChip, zeroTx, zeroRx, withZero, baseOf, sideFrom, withSides, fileOf, typeOf, dataOf, datasOf, stateOf, recordOf};
+ghost use Rattle.detail_rules.specs.Given.{numbersOf, longAt, wordAt, truthAt, withChip, zeroTx, zeroRx, withZero, baseOf, sideFrom, withSides, fileOf, typeOf, dataOf, datasOf, stateOf, recordOf};
 
 fn wide(x: u8) -> u32
     ensures { λ r. ⌜ (r ≡ x) × (r < 256) ⌝ }

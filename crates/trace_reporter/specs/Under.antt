@@ -4,7 +4,7 @@ use Prim.Native.Nat.{ℕ}
 use mathlib.Core.Path.{_≡_}
 use mathlib.Core.List.{List}
 use Rattle.record.specs.declared.Record.{Record}
-use Rattle.report_rules.specs.DetailLines.{storesLine, recordLine}
+use Rattle.detail_rules.specs.DetailLines.{storesLine, recordLine}
 
 -- the first n stores of the list, or the record
 pub data Under (l : List ℕ) (n : ℕ) (k : Record) (bytes : List ℕ) : Type 0 where

@@ -4,7 +4,7 @@ use mathlib.Core.List.{[], _∷_}
 use mathlib.Core.Path.{ap, _∙_}
 use Rattle.csr.specs.Control.{csr0lNumber}
 use Rattle.register_file.specs.Registers.{index, faddr, power, intrusbe, enabledOf, intrusb, intrOf}
-use Rattle.report_rules.specs.DetailNumbers.{ofChip, csr0lAt}
+use Rattle.detail_rules.specs.DetailNumbers.{ofChip, csr0lAt}
 use borrow.Author.Needs.{needs}
 use Rattle.trace_details.proofs.of_chip.Statement.{statement}
 use Rattle.trace_details.proofs.of_chip.Tie as tie

@@ -1,6 +1,6 @@
 -- `trace_details::of_flags` meets its contract.
 -- Assumes nothing.
-use Rattle.report_rules.specs.DetailNumbers.{ofFlags}
+use Rattle.detail_rules.specs.DetailNumbers.{ofFlags}
 use borrow.Author.Needs.{needs}
 use Rattle.trace_details.proofs.of_flags.Statement.{statement}
 use Rattle.trace_details.proofs.of_flags.Tie as tie

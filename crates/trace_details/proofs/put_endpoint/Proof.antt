@@ -1,7 +1,7 @@
 -- `trace_details::put_endpoint` meets its contract.
 -- Assumes nothing.
 use native.Mathlib.Omega.{arith}
-use Rattle.report_rules.proofs.DetailWritten.{endpoint-ends}
+use Rattle.detail_rules.proofs.DetailWritten.{endpoint-ends}
 use borrow.Author.Needs.{needs}
 use Rattle.trace_details.proofs.put_endpoint.Statement.{statement}
 use Rattle.trace_details.proofs.put_endpoint.Tie as tie

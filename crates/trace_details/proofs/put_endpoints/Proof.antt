@@ -1,7 +1,7 @@
 -- `trace_details::put_endpoints` meets its contract: after i turns the numbers of the first i endpoints stand there.
 -- Assumes nothing.
-use Rattle.report_rules.specs.DetailNumbers.{ofEndpoints}
-use Rattle.report_rules.proofs.DetailWritten.{endpoints-none, endpoints-more, endpoints-all}
+use Rattle.detail_rules.specs.DetailNumbers.{ofEndpoints}
+use Rattle.detail_rules.proofs.DetailWritten.{endpoints-none, endpoints-more, endpoints-all}
 use Rattle.trace_rules.proofs.Appended.{kept}
 use Rattle.trace_rules.specs.Text.{Wrote, fields}
 use Rattle.laws.proofs.Lists.{length-of}

@@ -1,6 +1,6 @@
 -- `trace_details::put_store` meets its contract.
 -- Assumes nothing.
-use Rattle.report_rules.proofs.DetailWritten.{store-ends}
+use Rattle.detail_rules.proofs.DetailWritten.{store-ends}
 use borrow.Author.Needs.{needs}
 use Rattle.trace_details.proofs.put_store.Statement.{statement}
 use Rattle.trace_details.proofs.put_store.Tie as tie

@@ -1,7 +1,7 @@
 -- `trace_details::put_stores` meets its contract: after i turns the first i stores stand there.
 -- Assumes nothing.
-use Rattle.report_rules.specs.DetailLines.{stores}
-use Rattle.report_rules.proofs.DetailWritten.{stores-none, stores-more, stores-all}
+use Rattle.detail_rules.specs.DetailLines.{stores}
+use Rattle.detail_rules.proofs.DetailWritten.{stores-none, stores-more, stores-all}
 use Rattle.trace_rules.proofs.Appended.{kept}
 use Rattle.trace_rules.specs.Text.{Wrote}
 use native.Mathlib.Omega.{arith}

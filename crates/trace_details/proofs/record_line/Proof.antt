@@ -1,8 +1,8 @@
 -- `trace_details::record_line` meets its contract.
 -- Assumes nothing.
-use Rattle.report_rules.proofs.DetailWritten.{on}
-use Rattle.report_rules.specs.DetailNumbers.{recordNumbers}
-use Rattle.report_rules.specs.DetailLines.{recordLine}
+use Rattle.detail_rules.proofs.DetailWritten.{on}
+use Rattle.detail_rules.specs.DetailNumbers.{recordNumbers}
+use Rattle.detail_rules.specs.DetailLines.{recordLine}
 use mathlib.Core.Path.{ap}
 use native.Mathlib.Omega.{arith}
 use Rattle.trace_rules.specs.Text.{fields}

@@ -1,6 +1,6 @@
 -- `trace_details::rest_at` meets its contract.
 -- Assumes nothing.
-use Rattle.report_rules.specs.DetailNumbers.{lengthsAt, ofData}
+use Rattle.detail_rules.specs.DetailNumbers.{lengthsAt, ofData}
 use borrow.Author.Needs.{needs}
 use Rattle.trace_details.proofs.rest_at.Statement.{statement}
 use Rattle.trace_details.proofs.rest_at.Tie as tie

@@ -2,7 +2,7 @@
 -- Assumes nothing.
 use mathlib.Core.Path.{ap, _∙_}
 use Rattle.csr.specs.Control.{txcsrlNumber, rxcsrlNumber}
-use Rattle.report_rules.proofs.DetailWritten.{shown-zero, shown-other}
+use Rattle.detail_rules.proofs.DetailWritten.{shown-zero, shown-other}
 use borrow.Author.Needs.{needs}
 use Rattle.trace_details.proofs.shown_at.Statement.{statement}
 use Rattle.trace_details.proofs.shown_at.Tie as tie

@@ -2,7 +2,7 @@
 -- Assumes nothing.
 use Rattle.trace_rules.proofs.Appended.{then}
 use native.Mathlib.Omega.{arith}
-use Rattle.report_rules.specs.DetailLines.{storesLine}
+use Rattle.detail_rules.specs.DetailLines.{storesLine}
 use borrow.Author.Needs.{needs}
 use Rattle.trace_details.proofs.stores_line.Statement.{statement}
 use Rattle.trace_details.proofs.stores_line.Tie as tie

@@ -2,7 +2,7 @@
 -- Assumes nothing.
 use denote.Ref.{now}
 use native.Mathlib.Omega.{arith}
-use Rattle.report_rules.proofs.GivenMade.{byte-none}
+use Rattle.detail_rules.proofs.GivenMade.{byte-none}
 use borrow.Author.Needs.{needs}
 use Rattle.trace_given.proofs.byte.Statement.{statement}
 use Rattle.trace_given.proofs.byte.Tie as tie

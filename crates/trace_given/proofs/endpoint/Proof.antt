@@ -1,6 +1,6 @@
 -- `trace_given::endpoint` meets its contract.
 -- Assumes nothing.
-use Rattle.report_rules.proofs.GivenMade.{data-done}
+use Rattle.detail_rules.proofs.GivenMade.{data-done}
 use borrow.Author.Needs.{needs}
 use Rattle.trace_given.proofs.endpoint.Statement.{statement}
 use Rattle.trace_given.proofs.endpoint.Tie as tie

@@ -1,6 +1,6 @@
 -- `trace_given::endpoints` meets its contract.
 -- Assumes nothing.
-use Rattle.report_rules.specs.Given.{datasOf}
+use Rattle.detail_rules.specs.Given.{datasOf}
 use mathlib.Core.List.{[], _∷_}
 use borrow.Author.Needs.{needs}
 use Rattle.trace_given.proofs.endpoints.Statement.{statement}

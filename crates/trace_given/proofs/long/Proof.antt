@@ -1,6 +1,6 @@
 -- `trace_given::long` meets its contract.
 -- Assumes nothing.
-use Rattle.report_rules.proofs.GivenMade.{long-is}
+use Rattle.detail_rules.proofs.GivenMade.{long-is}
 use borrow.Author.Needs.{needs}
 use Rattle.trace_given.proofs.long.Statement.{statement}
 use Rattle.trace_given.proofs.long.Tie as tie

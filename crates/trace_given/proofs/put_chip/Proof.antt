@@ -1,6 +1,6 @@
 -- `trace_given::put_chip` meets its contract.
 -- Assumes nothing.
-use Rattle.report_rules.specs.Given.{withChip}
+use Rattle.detail_rules.specs.Given.{withChip}
 use denote.Ref.{now}
 use lib.ListN.{set}
 use Rattle.register_file.specs.Registers.{withFaddr, withPower, withIndex, withEnabled, withIntrusbe, withIntrusb, withIntr}

@@ -1,6 +1,6 @@
 -- `trace_given::put_sides` meets its contract.
 -- Assumes nothing.
-use Rattle.report_rules.proofs.GivenMade.{sides-done}
+use Rattle.detail_rules.proofs.GivenMade.{sides-done}
 use borrow.Author.Needs.{needs}
 use Rattle.trace_given.proofs.put_sides.Statement.{statement}
 use Rattle.trace_given.proofs.put_sides.Tie as tie

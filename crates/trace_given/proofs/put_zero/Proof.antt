@@ -1,7 +1,7 @@
 -- `trace_given::put_zero` meets its contract.
 -- Assumes nothing.
 use mathlib.Core.Path.{refl}
-use Rattle.report_rules.proofs.GivenMade.{zero-done}
+use Rattle.detail_rules.proofs.GivenMade.{zero-done}
 use borrow.Author.Needs.{needs}
 use Rattle.trace_given.proofs.put_zero.Statement.{statement}
 use Rattle.trace_given.proofs.put_zero.Tie as tie

@@ -1,6 +1,6 @@
 -- `trace_given::record_from` meets its contract.
 -- Assumes nothing.
-use Rattle.report_rules.proofs.GivenMade.{record-done}
+use Rattle.detail_rules.proofs.GivenMade.{record-done}
 use borrow.Author.Needs.{needs}
 use Rattle.trace_given.proofs.record_from.Statement.{statement}
 use Rattle.trace_given.proofs.record_from.Tie as tie

@@ -1,6 +1,6 @@
 -- `trace_given::side` meets its contract.
 -- Assumes nothing.
-use Rattle.report_rules.proofs.GivenMade.{side-done}
+use Rattle.detail_rules.proofs.GivenMade.{side-done}
 use borrow.Author.Needs.{needs}
 use Rattle.trace_given.proofs.side.Statement.{statement}
 use Rattle.trace_given.proofs.side.Tie as tie

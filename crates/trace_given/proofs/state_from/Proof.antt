@@ -1,6 +1,6 @@
 -- `trace_given::state_from` meets its contract.
 -- Assumes nothing.
-use Rattle.report_rules.proofs.GivenMade.{is-idle, is-setup, is-data-in, is-data-out, is-accepted, is-nodata}
+use Rattle.detail_rules.proofs.GivenMade.{is-idle, is-setup, is-data-in, is-data-out, is-accepted, is-nodata}
 use Rattle.trace_given.proofs.state_from.Statement.{statement}
 use Rattle.trace_given.proofs.state_from.Tie as tie
 

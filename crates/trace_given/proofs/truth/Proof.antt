@@ -1,6 +1,6 @@
 -- `trace_given::truth` meets its contract.
 -- Assumes nothing.
-use Rattle.report_rules.specs.Given.{truthAt}
+use Rattle.detail_rules.specs.Given.{truthAt}
 use borrow.Author.Needs.{needs}
 use Rattle.trace_given.proofs.truth.Statement.{statement}
 use Rattle.trace_given.proofs.truth.Tie as tie

@@ -1,6 +1,6 @@
 -- `trace_given::word` meets its contract.
 -- Assumes nothing.
-use Rattle.report_rules.specs.Given.{wordAt}
+use Rattle.detail_rules.specs.Given.{wordAt}
 use borrow.Author.Needs.{needs}
 use Rattle.trace_given.proofs.word.Statement.{statement}
 use Rattle.trace_given.proofs.word.Tie as tie

@@ -1,6 +1,6 @@
 -- `trace_given::words` meets its contract.
 -- Assumes nothing.
-use Rattle.report_rules.proofs.GivenMade.{words-done}
+use Rattle.detail_rules.proofs.GivenMade.{words-done}
 use borrow.Author.Needs.{needs}
 use Rattle.trace_given.proofs.words.Statement.{statement}
 use Rattle.trace_given.proofs.words.Tie as tie

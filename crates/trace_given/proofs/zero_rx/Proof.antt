@@ -1,6 +1,6 @@
 -- `trace_given::zero_rx` meets its contract.
 -- Assumes nothing.
-use Rattle.report_rules.proofs.GivenMade.{zero-rx-done}
+use Rattle.detail_rules.proofs.GivenMade.{zero-rx-done}
 use borrow.Author.Needs.{needs}
 use Rattle.trace_given.proofs.zero_rx.Statement.{statement}
 use Rattle.trace_given.proofs.zero_rx.Tie as tie

@@ -1,6 +1,6 @@
 -- `trace_given::zero_tx` meets its contract.
 -- Assumes nothing.
-use Rattle.report_rules.proofs.GivenMade.{zero-tx-done}
+use Rattle.detail_rules.proofs.GivenMade.{zero-tx-done}
 use borrow.Author.Needs.{needs}
 use Rattle.trace_given.proofs.zero_tx.Statement.{statement}
 use Rattle.trace_given.proofs.zero_tx.Tie as tie

@@ -8,7 +8,7 @@ use Rattle.csr.specs.Control.{txcsrlOf, rxcsrlOf, txcsrlNumber, rxcsrlNumber}
 use Rattle.register_file.specs.Registers.{File, withIndex, sideAt, chosen}
 use Rattle.register_file.specs.Control.{txcsrlRead, rxcsrlRead}
 use Rattle.register_file.proofs.Readings.{reselected, chosen-selected}
-use Rattle.report_rules.specs.DetailNumbers.{txcsrlAt, rxcsrlAt}
+use Rattle.detail_rules.specs.DetailNumbers.{txcsrlAt, rxcsrlAt}
 
 seen : (r : File) (e : ℕ) (d : Direction) → sideAt r e d ≡ chosen (withIndex r e) d
 seen r e d = sym (chosen-selected r e d ∙ reselected r e e d)

@@ -8,7 +8,7 @@ use Rattle.register_file.specs.Registers.{File}
 use Rattle.endpoints.specs.declared.EndpointData.{EndpointData}
 use Rattle.endpoints.specs.Endpoints.{blank}
 use Rattle.record.specs.declared.Record.{Record}
-use Rattle.report_rules.specs.DetailNumbers.{ofChip, registersAt, shownAt, lengthsAt, ofData, ofEndpoint, ofEndpoints, ofFlags, recordNumbers}
+use Rattle.detail_rules.specs.DetailNumbers.{ofChip, registersAt, shownAt, lengthsAt, ofData, ofEndpoint, ofEndpoints, ofFlags, recordNumbers}
 
 six : (r : File) (e : ℕ) → length (shownAt r e) ≡ 6
 unfolding shownAt registersAt

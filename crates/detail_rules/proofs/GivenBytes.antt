@@ -6,8 +6,8 @@ use mathlib.Core.Path.{_≡_, refl, ap, sym, _∙_}
 use mathlib.Core.List.{List, [], _∷_, map}
 use lib.ListN.{length, getD}
 use Rattle.laws.specs.Lists.{numbers}
-use Rattle.report_rules.specs.Given.{numberAt, numbersOf, longAt}
-use Rattle.report_rules.specs.GivenPrinted.{bytesOf, Read}
+use Rattle.detail_rules.specs.Given.{numberAt, numbersOf, longAt}
+use Rattle.detail_rules.specs.GivenPrinted.{bytesOf, Read}
 
 -- a list is its numbers one after another
 shifted : (x : ℕ) (xs : List ℕ) (i k : ℕ) → map (longAt (x ∷ xs)) (numbers (suc i) k) ≡ map (longAt xs) (numbers i k)

@@ -27,11 +27,11 @@ use Rattle.control_state.specs.declared.ControlStateEnum.{ControlStateEnum}
 use Rattle.control_state.specs.declared.ControlStateEnum.the-variants.{Idle, Setup, DataIn, DataOut, Accepted, NodataPhase}
 use Rattle.control_state.specs.Numbers.{stateNumber}
 use Rattle.record.specs.declared.Record.{Record}
-use Rattle.report_rules.specs.DetailNumbers.{csr0lAt, ofChip, txcsrlAt, rxcsrlAt, registersAt, shownAt, lengthsAt, ofData, ofEndpoint, ofEndpoints, ofFlags, recordNumbers}
-use Rattle.report_rules.proofs.DetailCounted.{ninety-six}
-use Rattle.report_rules.specs.Given.{longAt, baseOf}
-use Rattle.report_rules.specs.GivenPrinted.{Csr0lReads, TxcsrlReads, RxcsrlReads, IsoReads, RegistersRead, RestReads, Printed, Held, Ever, Again}
-use Rattle.report_rules.proofs.GivenBack.{back}
+use Rattle.detail_rules.specs.DetailNumbers.{csr0lAt, ofChip, txcsrlAt, rxcsrlAt, registersAt, shownAt, lengthsAt, ofData, ofEndpoint, ofEndpoints, ofFlags, recordNumbers}
+use Rattle.detail_rules.proofs.DetailCounted.{ninety-six}
+use Rattle.detail_rules.specs.Given.{longAt, baseOf}
+use Rattle.detail_rules.specs.GivenPrinted.{Csr0lReads, TxcsrlReads, RxcsrlReads, IsoReads, RegistersRead, RestReads, Printed, Held, Ever, Again}
+use Rattle.detail_rules.proofs.GivenBack.{back}
 
 -- at every number below n
 module _ (P : ℕ → Type 0) where

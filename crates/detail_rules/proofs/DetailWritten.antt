@@ -16,8 +16,8 @@ use Rattle.csr.specs.Control.{txcsrlOf, rxcsrlOf, txcsrlNumber, rxcsrlNumber}
 use Rattle.register_file.specs.Registers.{File, sideAt}
 use Rattle.endpoints.specs.declared.EndpointData.{EndpointData}
 use Rattle.endpoints.specs.Endpoints.{blank}
-use Rattle.report_rules.specs.DetailLines.{store, stores}
-use Rattle.report_rules.specs.DetailNumbers.{txcsrlAt, rxcsrlAt, registersAt, shownAt, lengthsAt, ofData, ofEndpoint, ofEndpoints}
+use Rattle.detail_rules.specs.DetailLines.{store, stores}
+use Rattle.detail_rules.specs.DetailNumbers.{txcsrlAt, rxcsrlAt, registersAt, shownAt, lengthsAt, ofData, ofEndpoint, ofEndpoints}
 
 -- a digit more, ten times as far
 longer : (j n : ℕ) → ((m : ℕ) → m ≤ n / 10 → length (decimal m) ≤ j) → 3 ≤ j → length (decimal n) ≤ suc j

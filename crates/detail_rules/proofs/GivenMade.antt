@@ -19,7 +19,7 @@ use Rattle.endpoints.specs.declared.EndpointData.{EndpointData}
 use Rattle.endpoints.specs.declared.EndpointType.the-variants.{Control, Isochronous, Bulk, Interrupt}
 use Rattle.control_state.specs.declared.ControlStateEnum.{ControlStateEnum}
 use Rattle.control_state.specs.declared.ControlStateEnum.the-variants.{Idle, Setup, DataIn, DataOut, Accepted, NodataPhase}
-use Rattle.report_rules.specs.Given.{numberAt, numbersOf, longAt, wordAt, truthAt, withChip, zeroTx, zeroRx, withZero, baseOf, sideFrom, withSides, withOthers, fileOf, typeOf, dataOf, datasOf, stateOf, controlOf, flagsOf, recordOf}
+use Rattle.detail_rules.specs.Given.{numberAt, numbersOf, longAt, wordAt, truthAt, withChip, zeroTx, zeroRx, withZero, baseOf, sideFrom, withSides, withOthers, fileOf, typeOf, dataOf, datasOf, stateOf, controlOf, flagsOf, recordOf}
 
 -- past the end of the bytes
 pub byte-none : (h : List ℕ) (i : ℕ) → length h ≤ i → _≡_ {A = ℕ} 0 (getD h i 0)

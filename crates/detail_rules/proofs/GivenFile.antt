@@ -16,7 +16,7 @@ use Rattle.csr.specs.declared.Side.{Side}
 use Rattle.csr.proofs.Sides.{in-out}
 use Rattle.register_file.specs.Registers.{File, Whole, freshFile, sideAt, withSide, setupend, withSetupend, withFaddr, withPower, withIndex, withEnabled, withIntrusbe, withIntrusb, withIntr}
 use Rattle.register_file.proofs.Sides.{side-same, side-flip, side-other, keeps, keeps-length, set-keeps}
-use Rattle.report_rules.specs.Given.{wordAt, withChip, zeroTx, zeroRx, withZero, baseOf, sideFrom, withSides, withOthers, fileOf}
+use Rattle.detail_rules.specs.Given.{wordAt, withChip, zeroTx, zeroRx, withZero, baseOf, sideFrom, withSides, withOthers, fileOf}
 
 -- a side of an endpoint from 1 to 5
 abbrev sideOf : List ℕ → ℕ → Direction → Side

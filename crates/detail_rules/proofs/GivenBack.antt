@@ -10,12 +10,12 @@ use Rattle.board.specs.declared.Direction.the-variants.{Out, In}
 use Rattle.csr.specs.declared.Side.{Side}
 use Rattle.csr.specs.Control.{txcsrlOf, rxcsrlOf, txcsrlNumber, rxcsrlNumber}
 use Rattle.register_file.specs.Registers.{File, freshFile, sideAt, index, faddr, power, intrusbe, enabledOf, intrusb, intrOf, withFaddr, withPower, withIndex, withEnabled, withIntrusbe, withIntrusb, withIntr}
-use Rattle.report_rules.specs.DetailNumbers.{ofChip, txcsrlAt, rxcsrlAt, registersAt, shownAt, lengthsAt, ofData, ofEndpoint, ofEndpoints, ofFlags, recordNumbers}
-use Rattle.report_rules.specs.Given.{longAt, wordAt, withChip, zeroTx, zeroRx, baseOf, sideFrom, fileOf, dataOf, datasOf, controlOf, flagsOf, recordOf}
-use Rattle.report_rules.specs.GivenPrinted.{Csr0lReads, TxcsrlReads, RxcsrlReads, RegistersRead, RestReads, Printed, Back}
-use Rattle.report_rules.proofs.GivenBytes.{listed}
-use Rattle.report_rules.proofs.GivenNumbers.{csr0l-back, txcsrl-back, rxcsrl-back, iso-back, word-back, mark-back, type-back, state-back}
-use Rattle.report_rules.proofs.GivenFile.{file-keeps, file-ended, file-zero-tx, file-zero-rx, file-tx, file-rx}
+use Rattle.detail_rules.specs.DetailNumbers.{ofChip, txcsrlAt, rxcsrlAt, registersAt, shownAt, lengthsAt, ofData, ofEndpoint, ofEndpoints, ofFlags, recordNumbers}
+use Rattle.detail_rules.specs.Given.{longAt, wordAt, withChip, zeroTx, zeroRx, baseOf, sideFrom, fileOf, dataOf, datasOf, controlOf, flagsOf, recordOf}
+use Rattle.detail_rules.specs.GivenPrinted.{Csr0lReads, TxcsrlReads, RxcsrlReads, RegistersRead, RestReads, Printed, Back}
+use Rattle.detail_rules.proofs.GivenBytes.{listed}
+use Rattle.detail_rules.proofs.GivenNumbers.{csr0l-back, txcsrl-back, rxcsrl-back, iso-back, word-back, mark-back, type-back, state-back}
+use Rattle.detail_rules.proofs.GivenFile.{file-keeps, file-ended, file-zero-tx, file-zero-rx, file-tx, file-rx}
 
 -- an endpoint's thirteen numbers, the first six of which are registers
 abbrev registersIn : List ℕ → ℕ → List ℕ

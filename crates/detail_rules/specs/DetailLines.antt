@@ -6,7 +6,7 @@ use lib.ListN.{getD}
 use Rattle.trace_rules.specs.Text.{decimal, field, fields}
 use Rattle.trace_rules.specs.Lines.{newline}
 use Rattle.record.specs.declared.Record.{Record}
-use Rattle.report_rules.specs.DetailNumbers.{recordNumbers}
+use Rattle.detail_rules.specs.DetailNumbers.{recordNumbers}
 
 abbrev pub comma : List ℕ
 comma = 44 ∷ []

@@ -16,9 +16,9 @@ use Rattle.register_file.specs.Registers.{File, setupend, sideAt}
 use Rattle.register_file.specs.Control.{csr0lRead}
 use Rattle.endpoints.specs.Endpoints.{typeNumber}
 use Rattle.control_state.specs.Numbers.{stateNumber}
-use Rattle.report_rules.specs.DetailNumbers.{csr0lAt}
-use Rattle.report_rules.specs.Given.{longAt, wordAt, truthAt, zeroTx, zeroRx, sideFrom, typeOf, stateOf}
-use Rattle.report_rules.specs.GivenPrinted.{Csr0lReads, TxcsrlReads, RxcsrlReads, IsoReads}
+use Rattle.detail_rules.specs.DetailNumbers.{csr0lAt}
+use Rattle.detail_rules.specs.Given.{longAt, wordAt, truthAt, zeroTx, zeroRx, sideFrom, typeOf, stateOf}
+use Rattle.detail_rules.specs.GivenPrinted.{Csr0lReads, TxcsrlReads, RxcsrlReads, IsoReads}
 
 -- a number below 64, and below 128, by its bits
 six : ℕ → Bool

@@ -9,8 +9,8 @@ use lib.ListN.{length, getD}
 use Rattle.laws.specs.Words.{bit}
 use Rattle.endpoints.specs.Endpoints.{blank}
 use Rattle.record.specs.declared.Record.{Record}
-use Rattle.report_rules.specs.DetailNumbers.{recordNumbers}
-use Rattle.report_rules.specs.Given.{numbersOf, longAt, baseOf, recordOf}
+use Rattle.detail_rules.specs.DetailNumbers.{recordNumbers}
+use Rattle.detail_rules.specs.Given.{numbersOf, longAt, baseOf, recordOf}
 
 -- of CSR0L "DataEnd, Serviced .. read 0": the bits 0, 1, 2, 4 and 5
 pub record Csr0lReads (v : ℕ) : Type 0 where

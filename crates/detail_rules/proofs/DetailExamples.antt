@@ -2,7 +2,7 @@
 use mathlib.Core.Path.{_≡_, refl}
 use mathlib.Core.List.{[], _∷_}
 use Rattle.trace_rules.specs.Text.{digits, decimal, field}
-use Rattle.report_rules.specs.DetailLines.{store, stores, storesLine}
+use Rattle.detail_rules.specs.DetailLines.{store, stores, storesLine}
 
 -- `  stores 3,1,1 7,1,10`
 two-stores : storesLine (3 ∷ 1 ∷ 1 ∷ 7 ∷ 1 ∷ 10 ∷ 99 ∷ []) 2 ≡ 32 ∷ 32 ∷ 115 ∷ 116 ∷ 111 ∷ 114 ∷ 101 ∷ 115 ∷ 32 ∷ 51 ∷ 44 ∷ 49 ∷ 44 ∷ 49 ∷ 32 ∷ 55 ∷ 44 ∷ 49 ∷ 44 ∷ 49 ∷ 48 ∷ 10 ∷ []

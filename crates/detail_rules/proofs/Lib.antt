@@ -1,0 +1,10 @@
+pub mod DetailSelected
+pub mod DetailWritten
+pub mod DetailExamples
+pub mod DetailCounted
+pub mod GivenEver
+pub mod GivenNumbers
+pub mod GivenFile
+pub mod GivenBytes
+pub mod GivenMade
+pub mod GivenBack

@@ -1,0 +1,4 @@
+pub mod DetailLines
+pub mod DetailNumbers
+pub mod Given
+pub mod GivenPrinted
