@@ -13,7 +13,7 @@ pub enum Reply {
     Refused(Refusal),
 }
 
-// The record stands first, where it is: so that a call copies less (bench/).
+// The record stands first: so a call copies it in one go (bench/RESULTS.md).
 pub struct Called {
     pub record: Record,
     pub stores: usize,

@@ -2,3 +2,4 @@ pub mod Shown
 pub mod Act
 pub mod Report
 pub mod Runs
+pub mod Memory

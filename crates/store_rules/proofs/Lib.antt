@@ -4,3 +4,4 @@ pub mod Others
 pub mod Named
 pub mod Halts
 pub mod AsWritten
+pub mod Told

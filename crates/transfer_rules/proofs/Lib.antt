@@ -15,3 +15,4 @@ pub mod ReadAnswers
 pub mod Read
 pub mod ReadReplies
 pub mod ReadVerdicts
+pub mod Setup

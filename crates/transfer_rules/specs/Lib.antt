@@ -8,3 +8,4 @@ pub mod ReadTests
 pub mod ReadZero
 pub mod Read
 pub mod ReadReplies
+pub mod Setup
