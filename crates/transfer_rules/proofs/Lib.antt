@@ -16,3 +16,5 @@ pub mod Read
 pub mod ReadReplies
 pub mod ReadVerdicts
 pub mod Setup
+pub mod Standing
+pub mod Transfers

@@ -33,7 +33,7 @@ module _ (k : Record) (ep : ℕ) (b f l : List ℕ) where
   abbrev verdict-of : Verdict
   verdict-of = tests k ep (length b) (length f) (length l)
 
-  abbrev ran-by : Verdict → Ran
+  abbrev pub ran-by : Verdict → Ran
   ran-by v = writeBy v (k .regs .board) (k .«control_state») (k .irq) (txSize k) ep b f (log (k .regs .words) l 0)
 
   -- the call, by what the tests come to

@@ -9,3 +9,4 @@ pub mod ReadZero
 pub mod Read
 pub mod ReadReplies
 pub mod Setup
+pub mod Transfers

@@ -1,0 +1,326 @@
+-- An answered write and an answered read leave what specs/Transfers.antt says. Assumes nothing.
+use Prim.Native.Nat.{ℕ, _+_, _≤_, _<_, min}
+use mathlib.Core.Path.{_≡_, refl, sym, ap, subst, _∙_}
+use mathlib.Core.Logic.{_⊎_, inl, inr}
+use mathlib.Core.Bool.{true, false}
+use mathlib.Core.List.{List}
+use native.Mathlib.Omega.{arith}
+use native.Mathlib.Nat.{zero-add, min-le-left, min-le-right, le-min}
+use native.Mathlib.Decide.{ℕ-discrete}
+use borrow.Author.Tests.{eq-eqb, ne-eqb, ltb-false}
+use lib.ListN.{length, getD, take, drop, length-drop}
+use lib.Seq.{length-take-le, getD-take, getD-drop}
+use Rattle.laws.specs.Lists.{pasted}
+use Rattle.laws.proofs.Lists.{byte-before, byte-after, byte-inside, length-pasted}
+use Rattle.board.specs.declared.Direction.the-variants.{Out, In}
+use Rattle.csr.specs.declared.Side.{Side}
+use Rattle.csr.specs.declared.Txcsrl.{Txcsrl}
+use Rattle.csr.specs.declared.Rxcsrl.{Rxcsrl}
+use Rattle.csr.specs.declared.TxcsrlSet.the-variants.{TxPktRdy}
+use Rattle.csr.specs.declared.RxcsrlSet.the-variants.{NoRxPktRdy}
+use Rattle.csr.specs.Registers.{withLen}
+use Rattle.csr.specs.Control.{dropped, txcsrlOf, txcsrlSet, txStored, txcsrlNumber, rxcsrlOf, rxcsrlSet, rxStored, rxcsrlNumber}
+use Rattle.csr.proofs.AsWritten.{drops}
+use Rattle.csr.proofs.Modified.{readied, tx-readied, rx-read}
+use Rattle.csr.proofs.Stored.{dropped-rest}
+use Rattle.register_file.specs.Registers.{Whole, sideAt, chosen}
+use Rattle.register_file.specs.Control.{txcsrlRead, rxcsrlRead}
+use Rattle.store_list.specs.Stores.{listed, INDEX, TXCSRL, RXCSRL}
+use Rattle.store_rules.specs.Stores.{Log, log, writeIndex, writePacket, modifyTxcsrl, modifyRxcsrl}
+use Rattle.store_rules.specs.Promise.{txcsrl, rxcsrl, packet}
+use Rattle.store_rules.proofs.Promises.{modify-txcsrl, modify-rxcsrl, packet-none}
+use Rattle.record.specs.declared.Record.{Record}
+use Rattle.record.specs.Record.{areaIn, areaOf, endpointsOf}
+use Rattle.record.proofs.Areas.{area-within}
+use Rattle.record.proofs.Passing.{record-is-sound, waiting-fits}
+use Rattle.transfer_rules.specs.declared.Verdict.{Verdict}
+use Rattle.transfer_rules.specs.declared.Verdict.the-variants.{Clear}
+use Rattle.transfer_rules.specs.declared.WriteAnswer.the-variants as wrote
+use Rattle.transfer_rules.specs.declared.ReadAnswer.the-variants as got-answer
+use Rattle.transfer_rules.specs.Peek.{txPktRdy, rxCount, after}
+use Rattle.transfer_rules.specs.WriteTests as write-tests
+use Rattle.transfer_rules.specs.WriteZero.{wroteNumber}
+use Rattle.transfer_rules.specs.Write as write
+use Rattle.transfer_rules.specs.Write.{WriteOutcome, loaded, sentOther, sent, writeCall}
+use Rattle.transfer_rules.specs.WriteReplies as write-rows
+use Rattle.transfer_rules.specs.ReadTests as read-tests
+use Rattle.transfer_rules.specs.ReadZero.{gotNumber}
+use Rattle.transfer_rules.specs.Read as read
+use Rattle.transfer_rules.specs.Read.{ReadOutcome, copied, readOther, got, readCall}
+use Rattle.transfer_rules.specs.ReadReplies as read-rows
+use Rattle.transfer_rules.specs.Transfers.{SameBits, sendValue, takeValue, writeList, writeCount, Writes, Takes, Fills, Copies}
+use Rattle.transfer_rules.proofs.Endings.{below-six}
+use Rattle.transfer_rules.proofs.Lent.{lent-enough}
+use Rattle.transfer_rules.proofs.Standing.{Stands, begin, of-txcsrl, of-rxcsrl, of-packet, next, as-named}
+use Rattle.transfer_rules.proofs.WriteVerdicts as write-verdicts
+use Rattle.transfer_rules.proofs.WriteAnswers as write-answers
+use Rattle.transfer_rules.proofs.ReadVerdicts as read-verdicts
+use Rattle.transfer_rules.proofs.ReadAnswers as read-answers
+
+-- the two values
+ready-number : (s : Side) → s .ready ≡ false → txcsrlNumber (txcsrlSet TxPktRdy (txcsrlOf s)) ≡ sendValue s
+unfolding txcsrlNumber txcsrlSet txcsrlOf
+ready-number s p = rw p (omega arith)
+
+taken-number : (s : Side) → rxcsrlNumber (rxcsrlSet NoRxPktRdy (rxcsrlOf s)) ≡ takeValue s
+unfolding rxcsrlNumber rxcsrlSet rxcsrlOf
+taken-number s = omega arith
+
+-- the stores
+module _ {g : Log} {e : ℕ} (low : e < 6) (up : e ≡ 0 → ⊥) where
+  readied-next : {x : Log} {t : Side} {l : List ℕ} {n : ℕ} → Stands g e In x t l n → t .ready ≡ false
+      → Stands g e In (modifyTxcsrl TxPktRdy x) (readied t) (listed l n TXCSRL e (sendValue t)) (n + 1)
+  readied-next {x} {t} {l} {n} k p =
+      let at : chosen (x .regs) In ≡ t = ap (λ (i : ℕ). sideAt (x .regs) i In) (k .selected) ∙ k .here in
+      let bits : Txcsrl = txcsrlSet TxPktRdy (txcsrlRead (x .regs)) in
+      rw (modify-txcsrl TxPktRdy x)
+      (as-named
+      (ap (λ (s : Side). txStored (txcsrlSet TxPktRdy (txcsrlOf s)) t) at ∙ tx-readied t)
+      (ap (λ (v : ℕ). listed l n TXCSRL e v) (ap (λ (s : Side). txcsrlNumber (txcsrlSet TxPktRdy (txcsrlOf s))) at ∙ ready-number t p))
+      (next low up k (txcsrl bits) (txStored bits) (of-txcsrl bits)))
+
+  taken-next : {x : Log} {t : Side} {l : List ℕ} {n : ℕ} → Stands g e Out x t l n
+      → Stands g e Out (modifyRxcsrl NoRxPktRdy x) (dropped true t) (listed l n RXCSRL e (takeValue t)) (n + 1)
+  taken-next {x} {t} {l} {n} k =
+      let at : chosen (x .regs) Out ≡ t = ap (λ (i : ℕ). sideAt (x .regs) i Out) (k .selected) ∙ k .here in
+      let bits : Rxcsrl = rxcsrlSet NoRxPktRdy (rxcsrlRead (x .regs)) in
+      rw (modify-rxcsrl NoRxPktRdy x)
+      (as-named
+      (ap (λ (s : Side). rxStored (rxcsrlSet NoRxPktRdy (rxcsrlOf s)) t) at ∙ rx-read t)
+      (ap (λ (v : ℕ). listed l n RXCSRL e v) (ap (λ (s : Side). rxcsrlNumber (rxcsrlSet NoRxPktRdy (rxcsrlOf s))) at ∙ taken-number t))
+      (next low up k (rxcsrl bits) (rxStored bits) (of-rxcsrl bits)))
+
+-- what an answered write has passed
+module _ (k : Record) (e : ℕ) (bytes x l : List ℕ) where
+  abbrev whose : WriteOutcome
+  whose = writeCall k e bytes x l
+
+  abbrev n : ℕ
+  n = length bytes
+
+  pub record Passed : Type 0 where
+    pub admitted : write-rows.Admitted k e (length x) (length l)
+    pub unready : write-rows.unready k e ≡ false
+    pub fits : write-rows.tooLong k e n ≡ false
+    pub clear : write-tests.tests k e n (length x) (length l) ≡ Clear
+
+  passed-by : {m : ℕ} → write-rows.Given k e n (length x) (length l) m → m ≡ 0 → Passed
+  passed-by (write-rows.done a s t u) z = record {
+    admitted = a;
+    unready = s;
+    fits = t;
+    clear = write-verdicts.tests-are k e n (length x) (length l) ∙ rw (a .lent, a .passes, a .there, s, t, u);
+  }
+  passed-by (write-rows.blocks a s) z = absurd (omega arith)
+  passed-by (write-rows.beyond p q r) z = absurd (omega arith)
+  passed-by (write-rows.long a s t) z = absurd (omega arith)
+  passed-by (write-rows.untaken a s t u) z = absurd (omega arith)
+  passed-by (write-rows.little p) z = absurd (omega arith)
+  passed-by (write-rows.unsound p q) z = absurd (omega arith)
+
+  module _ (done : wroteNumber (whose .result .answer) ≡ 0) where
+    passed : Passed
+    passed = passed-by (write-answers.exactly k e bytes x l 0 .0 done) refl
+
+    call-done : whose ≡ write.outcome k (write-answers.ran-by k e bytes x l Clear)
+    call-done = write-answers.call-is k e bytes x l ∙ ap (λ (v : Verdict). write.outcome k (write-answers.ran-by k e bytes x l v)) (passed .clear)
+
+    short-enough : n ≤ areaOf k e In .size
+    unfolding write-tests.tooLong areaOf
+    short-enough = ltb-false _ _ (passed .fits)
+
+    room : areaOf k e In .start + n ≤ length x
+    room = omega (arith, short-enough, area-within k e In, lent-enough k (length x) (length l) (passed .admitted .lent) .0)
+
+    pasted-there : whose .fifo ≡ pasted x (areaOf k e In .start) bytes
+    unfolding write.taken areaOf
+    pasted-there = ap (λ (o : WriteOutcome). o .fifo) call-done
+
+    fifo-outside : (j : ℕ) → (j < areaOf k e In .start) ⊎ (areaOf k e In .start + n ≤ j) → getD (whose .fifo) j 0 ≡ getD x j 0
+    fifo-outside j (inl h) = ap (λ (y : List ℕ). getD y j 0) pasted-there ∙ byte-before x (areaOf k e In .start) bytes (omega (arith, room)) j 0 h
+    fifo-outside j (inr h) = ap (λ (y : List ℕ). getD y j 0) pasted-there ∙ byte-after x (areaOf k e In .start) bytes (omega (arith, room)) j 0 h
+
+    -- at any endpoint
+    pub fills : Fills k e bytes x whose
+    fills = record {
+      fits = short-enough;
+      inside = λ i h. ap (λ (y : List ℕ). getD y (areaOf k e In .start + i) 0) pasted-there ∙ byte-inside x (areaOf k e In .start) bytes (omega (arith, room)) i 0 h;
+      outside = fifo-outside;
+      whole = ap (λ (y : List ℕ). length y) pasted-there ∙ length-pasted x (areaOf k e In .start) bytes room;
+    }
+
+    -- at 1 to 5
+    module _ (up : e ≡ 0 → ⊥) (six : Whole (k .regs .words)) where
+      abbrev g : Log
+      g = log (k .regs .words) l 0
+
+      abbrev before : Side
+      before = sideAt (k .regs .words) e In
+
+      abbrev leaves : Log → WriteOutcome
+      leaves h = write.outcome k (write.ran (wrote.Done n) (pasted x (areaIn (k .regs .board) e In .start) bytes) (after (k .«control_state») (k .irq) h))
+
+      call-other : whose ≡ leaves (modifyTxcsrl TxPktRdy (writePacket n (writeIndex e g)))
+      unfolding write.taken sent sentOther loaded
+      call-other = call-done ∙ rw (ne-eqb e 0 up)
+
+      low : e < 6
+      unfolding endpointsOf
+      low = below-six (k .regs .board) e (passed .admitted .there)
+
+      not-ready : before .ready ≡ false
+      unfolding txPktRdy
+      not-ready = passed .unready
+
+      empty : before .len ≡ 0
+      empty = record-is-sound k (passed .admitted .passes) .regs .side e In .none not-ready
+
+      -- the side t after the stores
+      record Loaded (t : Side) : Type 0 where
+        ready : t .ready ≡ true
+        length : t .len ≡ n
+        bits : SameBits before t
+
+      from-log : {h : Log} {t : Side} {m : List ℕ} {c : ℕ} → Stands g e In h t m c → Loaded t → m ≡ writeList l e n (sendValue before) → c ≡ writeCount n
+          → Writes k e n l (leaves h)
+      from-log s y p q = record {
+        ready = ap (λ (t : Side). t .ready) (s .here) ∙ y .ready;
+        length = ap (λ (t : Side). t .len) (s .here) ∙ y .length;
+        bits = subst (SameBits before) (sym (s .here)) (y .bits);
+        others = s .elsewhere;
+        selected = s .selected;
+        rest = s .same;
+        parts = record { board = refl; endpoints = refl; control = refl; irq = refl };
+        list = s .list ∙ p;
+        count = s .count ∙ q;
+      }
+
+      by-length : Dec (n ≡ 0) → Writes k e n l (leaves (modifyTxcsrl TxPktRdy (writePacket n (writeIndex e g))))
+      by-length (yes z) =
+          subst (λ (h : Log). Writes k e n l (leaves (modifyTxcsrl TxPktRdy h))) (packet-none n (writeIndex e g) z)
+          (from-log (readied-next low up (begin g e In six) not-ready)
+          (record { ready = refl; length = empty ∙ sym z; bits = record { missed = refl; stall = refl; stalled = refl; iso = refl; maxp = refl } })
+          (rw (eq-eqb n 0 z)) (rw (eq-eqb n 0 z)))
+      by-length (no z) =
+          from-log (readied-next low up (next low up (begin g e In six) (packet n) (withLen n) (of-packet n z)) not-ready)
+          (record { ready = refl; length = refl; bits = record { missed = refl; stall = refl; stalled = refl; iso = refl; maxp = refl } })
+          (rw (ne-eqb n 0 z)) (rw (ne-eqb n 0 z))
+
+      pub writes : Writes k e n l whose
+      writes = subst (Writes k e n l) (sym call-other) (by-length (ℕ-discrete n 0))
+
+-- and what an answered read has passed
+module _ (k : Record) (e : ℕ) (buf x l : List ℕ) where
+  abbrev reading : ReadOutcome
+  reading = readCall k e buf x l
+
+  abbrev len : ℕ
+  len = sideAt (k .regs .words) e Out .len
+
+  pub record Readable : Type 0 where
+    pub admitted : read-rows.Admitted k e (length x) (length l)
+    pub clear : read-tests.tests k e (length buf) (length x) (length l) ≡ Clear
+
+  readable-by : {m : ℕ} → read-rows.Given k e (length buf) (length x) (length l) m → m ≡ 0 → Readable
+  readable-by (read-rows.done a s t u) z = record {
+    admitted = a;
+    clear = read-verdicts.told k e (length buf) (length x) (length l) ∙ rw (a .lent, a .passes, a .there, s, t, u);
+  }
+  readable-by (read-rows.blocks a s) z = absurd (omega arith)
+  readable-by (read-rows.beyond p q r) z = absurd (omega arith)
+  readable-by (read-rows.unreadable a s t) z = absurd (omega arith)
+  readable-by (read-rows.unset a s t u) z = absurd (omega arith)
+  readable-by (read-rows.little p) z = absurd (omega arith)
+  readable-by (read-rows.unsound p q) z = absurd (omega arith)
+
+  module _ (done : gotNumber (reading .result .answer) ≡ 0) where
+    readable : Readable
+    readable = readable-by (read-answers.exactly k e buf x l 0 .0 done) refl
+
+    read-done : reading ≡ read-answers.tested k e buf x l Clear
+    read-done = read-answers.by-tests k e buf x l ∙ ap (read-answers.tested k e buf x l) (readable .clear)
+
+    len-fits : len ≤ areaOf k e Out .size
+    len-fits = waiting-fits k (record-is-sound k (readable .admitted .passes)) e Out
+
+    len-room : areaOf k e Out .start + len ≤ length x
+    len-room = omega (arith, len-fits, area-within k e Out, lent-enough k (length x) (length l) (readable .admitted .lent) .0)
+
+    -- what is copied: the shorter of packet and buffer
+    abbrev part : List ℕ
+    part = take (min len (length buf)) (drop (areaOf k e Out .start) x)
+
+    part-there : min len (length buf) ≤ length (drop (areaOf k e Out .start) x)
+    part-there = simp length-drop (omega (arith, len-room, min-le-left len (length buf)))
+
+    part-length : length part ≡ min len (length buf)
+    part-length = length-take-le (min len (length buf)) (drop (areaOf k e Out .start) x) part-there
+
+    copied-there : reading .buf ≡ pasted buf 0 part
+    unfolding read.taken copied areaOf rxCount
+    copied-there = ap (λ (o : ReadOutcome). o .buf) read-done
+
+    copied-inside : (i : ℕ) → i < len → i < length buf → getD (reading .buf) i 0 ≡ getD x (areaOf k e Out .start + i) 0
+    copied-inside i p q =
+        let h : i < min len (length buf) = le-min p q in
+        let j : i < length part = rw part-length h in
+        ap (λ (y : List ℕ). getD y i 0) copied-there ∙ ap (λ (m : ℕ). getD (pasted buf 0 part) m 0) (sym (zero-add i))
+        ∙ byte-inside buf 0 part (omega arith) i 0 j ∙ getD-take (min len (length buf)) (drop (areaOf k e Out .start) x) i 0 h
+        ∙ getD-drop (areaOf k e Out .start) x i 0
+
+    copied-outside : (i : ℕ) → len ≤ i → getD (reading .buf) i 0 ≡ getD buf i 0
+    copied-outside i h =
+        let past : 0 + length part ≤ i = omega (arith, part-length, min-le-left len (length buf)) in
+        ap (λ (y : List ℕ). getD y i 0) copied-there ∙ byte-after buf 0 part (omega arith) i 0 past
+
+    copied-whole : length (reading .buf) ≡ length buf
+    copied-whole =
+        let within : 0 + length part ≤ length buf = omega (arith, part-length, min-le-right len (length buf)) in
+        ap (λ (y : List ℕ). length y) copied-there ∙ length-pasted buf 0 part within
+
+    -- at any endpoint
+    pub copies : Copies k e buf x reading
+    copies = record { fits = len-fits; inside = copied-inside; outside = copied-outside; whole = copied-whole }
+
+    -- at 1 to 5
+    module _ (up : e ≡ 0 → ⊥) (six : Whole (k .regs .words)) where
+      abbrev from : Log
+      from = log (k .regs .words) l 0
+
+      abbrev received : Side
+      received = sideAt (k .regs .words) e Out
+
+      abbrev count : ℕ
+      count = rxCount e (k .regs .words)
+
+      abbrev gives : Log → ReadOutcome
+      gives h = read.outcome k (record { answer = got-answer.Done count; buf = copied (k .regs .board) e count buf x; after = after (k .«control_state») (k .irq) h })
+
+      read-other : reading ≡ gives (modifyRxcsrl NoRxPktRdy (writeIndex e from))
+      unfolding read.taken got readOther
+      read-other = read-done ∙ rw (ne-eqb e 0 up)
+
+      below : e < 6
+      unfolding endpointsOf
+      below = below-six (k .regs .board) e (readable .admitted .there)
+
+      drop-bits : SameBits received (dropped true received)
+      drop-bits =
+          let r = dropped-rest true received in
+          record { missed = r .missed; stall = r .stall; stalled = r .stalled; iso = r .iso; maxp = r .maxp }
+
+      taken-log : {h : Log} → Stands from e Out h (dropped true received) (listed (listed l 0 INDEX e e) 1 RXCSRL e (takeValue received)) 2 → Takes k e l (gives h)
+      taken-log s = record {
+        ready = ap (λ (t : Side). t .ready) (s .here) ∙ drops received .0;
+        length = ap (λ (t : Side). t .len) (s .here) ∙ drops received .1;
+        bits = subst (SameBits received) (sym (s .here)) drop-bits;
+        others = s .elsewhere;
+        selected = s .selected;
+        rest = s .same;
+        parts = record { board = refl; endpoints = refl; control = refl; irq = refl };
+        list = s .list;
+        count = s .count;
+      }
+
+      pub takes : Takes k e l reading
+      takes = subst (Takes k e l) (sym read-other) (taken-log (taken-next below up (begin from e Out six)))
