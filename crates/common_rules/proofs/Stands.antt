@@ -13,7 +13,7 @@ use Rattle.board.specs.declared.Direction.the-variants.{Out, In}
 use Rattle.csr.specs.declared.Side.{Side}
 use Rattle.csr.specs.declared.Txcsrl.{Txcsrl}
 use Rattle.csr.specs.declared.Rxcsrl.{Rxcsrl}
-use Rattle.csr.specs.Registers.{towards, withIso, withMaxp}
+use Rattle.csr.specs.Registers.{towards, withIso, withMaxp, withLen}
 use Rattle.csr.specs.Control.{txStored, rxStored}
 use Rattle.register_file.specs.Registers as file
 use Rattle.register_file.specs.Registers.{File, Whole, sideAt}
@@ -21,7 +21,7 @@ use Rattle.register_file.proofs.Readings.{reselected}
 use Rattle.store_list.specs.Stores as Stores
 use Rattle.store_list.specs.Stores.{listed, INDEX}
 use Rattle.store_rules.specs.Stores.{Log, writeIndex}
-use Rattle.store_rules.specs.Promise.{Store, index, txcsrl, rxcsrl, iso, maxp, intre, does, leaves, writes, ends, register, value, isListed, Noted}
+use Rattle.store_rules.specs.Promise.{Store, index, txcsrl, rxcsrl, iso, maxp, intre, packet, does, leaves, writes, ends, register, value, isListed, Noted}
 use Rattle.store_rules.proofs.Promises.{sides, rest, index-selects, index-lists}
 use Rattle.store_rules.proofs.Others.{others}
 use Rattle.store_rules.proofs.Named.{named-faddr, named-power, named-intrusbe, named-enabled}
@@ -94,6 +94,10 @@ of-iso c = record { side = λ i e d s n. rw (ne-eqb i 0 n); number = λ q x. ref
 
 pub of-maxp : (d : Direction) (n : ℕ) → Concerns (maxp d n) d (withMaxp n)
 of-maxp c n = record { side = λ i e d s n. rw (ne-eqb i 0 n); number = λ q x. refl; ended = λ b. refl; listed = refl }
+
+-- "none if empty"
+pub of-packet : (n : ℕ) → (n ≡ 0 → ⊥) → Concerns (packet n) In (withLen n)
+of-packet n p = record { side = λ i e d s m. rw (ne-eqb n 0 p); number = λ q x. refl; ended = λ b. refl; listed = rw (ne-eqb n 0 p) }
 
 both-ways : (d : Direction) (f : Side → Side) (s : Side) → towards d d f s ≡ f s
 both-ways Out f s = refl

@@ -9,31 +9,18 @@ use borrow.Author.Tests.{ltb-false}
 use lib.Dec.{ltb}
 use lib.ListN.{length}
 use Rattle.laws.specs.Lists.{pasted}
-use Rattle.laws.proofs.Lists.{byte-inside, byte-before, byte-after, length-pasted}
-use Rattle.board.specs.declared.Span.{Span}
 use Rattle.board.specs.declared.Direction.the-variants.{Out}
 use Rattle.register_file.specs.Registers.{sideAt}
 use Rattle.record.specs.declared.Record.{Record}
 use Rattle.record.specs.declared.Admission.{Admission}
 use Rattle.record.specs.declared.Admission.the-variants.{Clear, Refused}
 use Rattle.record.specs.Record.{areaIn, areaOf}
+use Rattle.record.specs.Bytes.{Fills}
 use Rattle.record.proofs.Areas.{area-within}
+use Rattle.record.proofs.Bytes.{pasted-fills}
 use Rattle.record.proofs.Numbers.{not-zero}
 use Rattle.host_rules.specs.Host.{entryAt, arrivalBy, arrivalRefusalIn, arrivalRefusal, Arrival, unlessArrived, arrivalCall, happenedNumber}
-use Rattle.host_rules.specs.Arrivals.{Fills}
 use Rattle.host_rules.proofs.Host.{never, admitted}
-
-pasted-fills : (a : Span) (b f : List ℕ) → length b ≤ a .size → a .start + a .size ≤ length f → Fills a b f (pasted f (a .start) b)
-pasted-fills a b f n m =
-    let start : a .start ≤ length f = omega arith in
-    record {
-      fits = n;
-      within = m;
-      bytes = λ i h. byte-inside f (a .start) b start i 0 h;
-      before = λ i h. byte-before f (a .start) b start i 0 h;
-      past = λ i h. byte-after f (a .start) b start i 0 h;
-      whole = length-pasted f (a .start) b (omega arith);
-    }
 
 cleared : (t : Admission) (long waits : Bool) → arrivalBy t long waits ≡ Clear → (t ≡ Clear) × (long ≡ false)
 cleared (Refused x) l v d = never d

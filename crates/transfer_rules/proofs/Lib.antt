@@ -16,5 +16,4 @@ pub mod Read
 pub mod ReadReplies
 pub mod ReadVerdicts
 pub mod Setup
-pub mod Standing
 pub mod Transfers

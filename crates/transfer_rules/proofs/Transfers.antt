@@ -1,7 +1,6 @@
 -- An answered write and an answered read leave what specs/Transfers.antt says. Assumes nothing.
 use Prim.Native.Nat.{ℕ, _+_, _≤_, _<_, min}
 use mathlib.Core.Path.{_≡_, refl, sym, ap, subst, _∙_}
-use mathlib.Core.Logic.{_⊎_, inl, inr}
 use mathlib.Core.Bool.{true, false}
 use mathlib.Core.List.{List}
 use native.Mathlib.Omega.{arith}
@@ -11,7 +10,8 @@ use borrow.Author.Tests.{eq-eqb, ne-eqb, ltb-false}
 use lib.ListN.{length, getD, take, drop, length-drop}
 use lib.Seq.{length-take-le, getD-take, getD-drop}
 use Rattle.laws.specs.Lists.{pasted}
-use Rattle.laws.proofs.Lists.{byte-before, byte-after, byte-inside, length-pasted}
+use Rattle.laws.proofs.Lists.{byte-after, byte-inside, length-pasted}
+use Rattle.board.specs.declared.Direction.{Direction}
 use Rattle.board.specs.declared.Direction.the-variants.{Out, In}
 use Rattle.csr.specs.declared.Side.{Side}
 use Rattle.csr.specs.declared.Txcsrl.{Txcsrl}
@@ -23,15 +23,19 @@ use Rattle.csr.specs.Control.{dropped, txcsrlOf, txcsrlSet, txStored, txcsrlNum
 use Rattle.csr.proofs.AsWritten.{drops}
 use Rattle.csr.proofs.Modified.{readied, tx-readied, rx-read}
 use Rattle.csr.proofs.Stored.{dropped-rest}
-use Rattle.register_file.specs.Registers.{Whole, sideAt, chosen}
+use Rattle.register_file.specs.Registers.{Whole, sideAt, chosen, enabledOf}
 use Rattle.register_file.specs.Control.{txcsrlRead, rxcsrlRead}
 use Rattle.store_list.specs.Stores.{listed, INDEX, TXCSRL, RXCSRL}
 use Rattle.store_rules.specs.Stores.{Log, log, writeIndex, writePacket, modifyTxcsrl, modifyRxcsrl}
 use Rattle.store_rules.specs.Promise.{txcsrl, rxcsrl, packet}
 use Rattle.store_rules.proofs.Promises.{modify-txcsrl, modify-rxcsrl, packet-none}
+use Rattle.common_rules.specs.Kept.{SameBits}
+use Rattle.common_rules.proofs.Stands.{Stands, begin, of-txcsrl, of-rxcsrl, of-packet, next, as-named}
 use Rattle.record.specs.declared.Record.{Record}
 use Rattle.record.specs.Record.{areaIn, areaOf, endpointsOf}
+use Rattle.record.specs.Bytes.{Fills}
 use Rattle.record.proofs.Areas.{area-within}
+use Rattle.record.proofs.Bytes.{pasted-fills}
 use Rattle.record.proofs.Passing.{record-is-sound, waiting-fits}
 use Rattle.transfer_rules.specs.declared.Verdict.{Verdict}
 use Rattle.transfer_rules.specs.declared.Verdict.the-variants.{Clear}
@@ -48,10 +52,9 @@ use Rattle.transfer_rules.specs.ReadZero.{gotNumber}
 use Rattle.transfer_rules.specs.Read as read
 use Rattle.transfer_rules.specs.Read.{ReadOutcome, copied, readOther, got, readCall}
 use Rattle.transfer_rules.specs.ReadReplies as read-rows
-use Rattle.transfer_rules.specs.Transfers.{SameBits, sendValue, takeValue, writeList, writeCount, Writes, Takes, Fills, Copies}
+use Rattle.transfer_rules.specs.Transfers.{sendValue, takeValue, writeList, writeCount, Writes, Takes, Copies}
 use Rattle.transfer_rules.proofs.Endings.{below-six}
 use Rattle.transfer_rules.proofs.Lent.{lent-enough}
-use Rattle.transfer_rules.proofs.Standing.{Stands, begin, of-txcsrl, of-rxcsrl, of-packet, next, as-named}
 use Rattle.transfer_rules.proofs.WriteVerdicts as write-verdicts
 use Rattle.transfer_rules.proofs.WriteAnswers as write-answers
 use Rattle.transfer_rules.proofs.ReadVerdicts as read-verdicts
@@ -67,9 +70,9 @@ unfolding rxcsrlNumber rxcsrlSet rxcsrlOf
 taken-number s = omega arith
 
 -- the stores
-module _ {g : Log} {e : ℕ} (low : e < 6) (up : e ≡ 0 → ⊥) where
-  readied-next : {x : Log} {t : Side} {l : List ℕ} {n : ℕ} → Stands g e In x t l n → t .ready ≡ false
-      → Stands g e In (modifyTxcsrl TxPktRdy x) (readied t) (listed l n TXCSRL e (sendValue t)) (n + 1)
+module _ {g : Log} {e : ℕ} {w : Direction → ℕ} (low : e < 6) (up : e ≡ 0 → ⊥) where
+  readied-next : {x : Log} {t : Side} {l : List ℕ} {n : ℕ} → Stands g e In x w t l n → t .ready ≡ false
+      → Stands g e In (modifyTxcsrl TxPktRdy x) w (readied t) (listed l n TXCSRL e (sendValue t)) (n + 1)
   readied-next {x} {t} {l} {n} k p =
       let at : chosen (x .regs) In ≡ t = ap (λ (i : ℕ). sideAt (x .regs) i In) (k .selected) ∙ k .here in
       let bits : Txcsrl = txcsrlSet TxPktRdy (txcsrlRead (x .regs)) in
@@ -77,10 +80,10 @@ module _ {g : Log} {e : ℕ} (low : e < 6) (up : e ≡ 0 → ⊥) where
       (as-named
       (ap (λ (s : Side). txStored (txcsrlSet TxPktRdy (txcsrlOf s)) t) at ∙ tx-readied t)
       (ap (λ (v : ℕ). listed l n TXCSRL e v) (ap (λ (s : Side). txcsrlNumber (txcsrlSet TxPktRdy (txcsrlOf s))) at ∙ ready-number t p))
-      (next low up k (txcsrl bits) (txStored bits) (of-txcsrl bits)))
+      (next low k up (txcsrl bits) (txStored bits) (of-txcsrl bits)))
 
-  taken-next : {x : Log} {t : Side} {l : List ℕ} {n : ℕ} → Stands g e Out x t l n
-      → Stands g e Out (modifyRxcsrl NoRxPktRdy x) (dropped true t) (listed l n RXCSRL e (takeValue t)) (n + 1)
+  taken-next : {x : Log} {t : Side} {l : List ℕ} {n : ℕ} → Stands g e Out x w t l n
+      → Stands g e Out (modifyRxcsrl NoRxPktRdy x) w (dropped true t) (listed l n RXCSRL e (takeValue t)) (n + 1)
   taken-next {x} {t} {l} {n} k =
       let at : chosen (x .regs) Out ≡ t = ap (λ (i : ℕ). sideAt (x .regs) i Out) (k .selected) ∙ k .here in
       let bits : Rxcsrl = rxcsrlSet NoRxPktRdy (rxcsrlRead (x .regs)) in
@@ -88,7 +91,7 @@ module _ {g : Log} {e : ℕ} (low : e < 6) (up : e ≡ 0 → ⊥) where
       (as-named
       (ap (λ (s : Side). rxStored (rxcsrlSet NoRxPktRdy (rxcsrlOf s)) t) at ∙ rx-read t)
       (ap (λ (v : ℕ). listed l n RXCSRL e v) (ap (λ (s : Side). rxcsrlNumber (rxcsrlSet NoRxPktRdy (rxcsrlOf s))) at ∙ taken-number t))
-      (next low up k (rxcsrl bits) (rxStored bits) (of-rxcsrl bits)))
+      (next low k up (rxcsrl bits) (rxStored bits) (of-rxcsrl bits)))
 
 -- what an answered write has passed
 module _ (k : Record) (e : ℕ) (bytes x l : List ℕ) where
@@ -129,25 +132,16 @@ module _ (k : Record) (e : ℕ) (bytes x l : List ℕ) where
     unfolding write-tests.tooLong areaOf
     short-enough = ltb-false _ _ (passed .fits)
 
-    room : areaOf k e In .start + n ≤ length x
-    room = omega (arith, short-enough, area-within k e In, lent-enough k (length x) (length l) (passed .admitted .lent) .0)
+    room : areaOf k e In .start + areaOf k e In .size ≤ length x
+    room = omega (arith, area-within k e In, lent-enough k (length x) (length l) (passed .admitted .lent) .0)
 
     pasted-there : whose .fifo ≡ pasted x (areaOf k e In .start) bytes
     unfolding write.taken areaOf
     pasted-there = ap (λ (o : WriteOutcome). o .fifo) call-done
 
-    fifo-outside : (j : ℕ) → (j < areaOf k e In .start) ⊎ (areaOf k e In .start + n ≤ j) → getD (whose .fifo) j 0 ≡ getD x j 0
-    fifo-outside j (inl h) = ap (λ (y : List ℕ). getD y j 0) pasted-there ∙ byte-before x (areaOf k e In .start) bytes (omega (arith, room)) j 0 h
-    fifo-outside j (inr h) = ap (λ (y : List ℕ). getD y j 0) pasted-there ∙ byte-after x (areaOf k e In .start) bytes (omega (arith, room)) j 0 h
-
     -- at any endpoint
-    pub fills : Fills k e bytes x whose
-    fills = record {
-      fits = short-enough;
-      inside = λ i h. ap (λ (y : List ℕ). getD y (areaOf k e In .start + i) 0) pasted-there ∙ byte-inside x (areaOf k e In .start) bytes (omega (arith, room)) i 0 h;
-      outside = fifo-outside;
-      whole = ap (λ (y : List ℕ). length y) pasted-there ∙ length-pasted x (areaOf k e In .start) bytes room;
-    }
+    pub fills : Fills (areaOf k e In) bytes x (whose .fifo)
+    fills = subst (Fills (areaOf k e In) bytes x) (sym pasted-there) (pasted-fills (areaOf k e In) bytes x short-enough room)
 
     -- at 1 to 5
     module _ (up : e ≡ 0 → ⊥) (six : Whole (k .regs .words)) where
@@ -181,7 +175,7 @@ module _ (k : Record) (e : ℕ) (bytes x l : List ℕ) where
         length : t .len ≡ n
         bits : SameBits before t
 
-      from-log : {h : Log} {t : Side} {m : List ℕ} {c : ℕ} → Stands g e In h t m c → Loaded t → m ≡ writeList l e n (sendValue before) → c ≡ writeCount n
+      from-log : {h : Log} {t : Side} {m : List ℕ} {c : ℕ} → Stands g e In h (λ (d : Direction). enabledOf d (k .regs .words)) t m c → Loaded t → m ≡ writeList l e n (sendValue before) → c ≡ writeCount n
           → Writes k e n l (leaves h)
       from-log s y p q = record {
         ready = ap (λ (t : Side). t .ready) (s .here) ∙ y .ready;
@@ -189,6 +183,8 @@ module _ (k : Record) (e : ℕ) (bytes x l : List ℕ) where
         bits = subst (SameBits before) (sym (s .here)) (y .bits);
         others = s .elsewhere;
         selected = s .selected;
+        enabled = s .enabled;
+        ended = s .ended;
         rest = s .same;
         parts = record { board = refl; endpoints = refl; control = refl; irq = refl };
         list = s .list ∙ p;
@@ -202,7 +198,7 @@ module _ (k : Record) (e : ℕ) (bytes x l : List ℕ) where
           (record { ready = refl; length = empty ∙ sym z; bits = record { missed = refl; stall = refl; stalled = refl; iso = refl; maxp = refl } })
           (rw (eq-eqb n 0 z)) (rw (eq-eqb n 0 z)))
       by-length (no z) =
-          from-log (readied-next low up (next low up (begin g e In six) (packet n) (withLen n) (of-packet n z)) not-ready)
+          from-log (readied-next low up (next low (begin g e In six) up (packet n) (withLen n) (of-packet n z)) not-ready)
           (record { ready = refl; length = refl; bits = record { missed = refl; stall = refl; stalled = refl; iso = refl; maxp = refl } })
           (rw (ne-eqb n 0 z)) (rw (ne-eqb n 0 z))
 
@@ -309,13 +305,15 @@ module _ (k : Record) (e : ℕ) (buf x l : List ℕ) where
           let r = dropped-rest true received in
           record { missed = r .missed; stall = r .stall; stalled = r .stalled; iso = r .iso; maxp = r .maxp }
 
-      taken-log : {h : Log} → Stands from e Out h (dropped true received) (listed (listed l 0 INDEX e e) 1 RXCSRL e (takeValue received)) 2 → Takes k e l (gives h)
+      taken-log : {h : Log} → Stands from e Out h (λ (d : Direction). enabledOf d (k .regs .words)) (dropped true received) (listed (listed l 0 INDEX e e) 1 RXCSRL e (takeValue received)) 2 → Takes k e l (gives h)
       taken-log s = record {
         ready = ap (λ (t : Side). t .ready) (s .here) ∙ drops received .0;
         length = ap (λ (t : Side). t .len) (s .here) ∙ drops received .1;
         bits = subst (SameBits received) (sym (s .here)) drop-bits;
         others = s .elsewhere;
         selected = s .selected;
+        enabled = s .enabled;
+        ended = s .ended;
         rest = s .same;
         parts = record { board = refl; endpoints = refl; control = refl; irq = refl };
         list = s .list;

@@ -2,7 +2,6 @@
 -- Assumes nothing.
 use Prim.Native.Nat.{ℕ, _+_, _≤_, _<_}
 use mathlib.Core.Path.{_≡_}
-use mathlib.Core.Logic.{_⊎_}
 use mathlib.Core.Bool.{true, false, cond}
 use mathlib.Core.List.{List}
 use lib.Dec.{eqb}
@@ -10,31 +9,13 @@ use lib.ListN.{length, getD}
 use Rattle.board.specs.declared.Direction.{Direction}
 use Rattle.board.specs.declared.Direction.the-variants.{Out, In}
 use Rattle.csr.specs.declared.Side.{Side}
-use Rattle.register_file.specs.Registers.{File, sideAt, index, faddr, power, intrusbe, enabledOf, intrusb, intrOf, setupend}
+use Rattle.register_file.specs.Registers.{sideAt, index, enabledOf, setupend}
 use Rattle.store_list.specs.Stores.{listed, INDEX, TXCSRL, RXCSRL, FIFO}
+use Rattle.common_rules.specs.Kept.{SameBits, SameRest}
 use Rattle.record.specs.declared.Record.{Record}
 use Rattle.record.specs.Record.{areaOf}
 use Rattle.transfer_rules.specs.Write.{WriteOutcome}
 use Rattle.transfer_rules.specs.Read.{ReadOutcome}
-
--- all of the side but its packet
-pub record SameBits (s t : Side) : Type 0 where
-  pub missed : t .missed ≡ s .missed
-  pub stall : t .stall ≡ s .stall
-  pub stalled : t .stalled ≡ s .stalled
-  pub iso : t .iso ≡ s .iso
-  pub maxp : t .maxp ≡ s .maxp
-
--- the registers that no side holds, but for the selection
-pub record SameRest (r q : File) : Type 0 where
-  pub address : faddr q ≡ faddr r
-  pub power : power q ≡ power r
-  pub busEnable : intrusbe q ≡ intrusbe r
-  pub enabled : (d : Direction) → enabledOf d q ≡ enabledOf d r
-  pub usb : intrusb q ≡ intrusb r
-  pub intr : (d : Direction) → intrOf q d ≡ intrOf r d
-  pub ended : setupend q ≡ setupend r
-  pub whole : length q ≡ length r
 
 -- all of the record but its registers
 pub record SameParts (k j : Record) : Type 0 where
@@ -67,6 +48,8 @@ pub record Writes (k : Record) (e n : ℕ) (l : List ℕ) (o : WriteOutcome) : T
   pub bits : SameBits (sideAt (k .regs .words) e In) (sideAt (o .result .«record» .regs .words) e In)
   pub others : (f : ℕ) (c : Direction) → (f ≡ e → c ≡ In → ⊥) → sideAt (o .result .«record» .regs .words) f c ≡ sideAt (k .regs .words) f c
   pub selected : index (o .result .«record» .regs .words) ≡ e
+  pub enabled : (d : Direction) → enabledOf d (o .result .«record» .regs .words) ≡ enabledOf d (k .regs .words)
+  pub ended : setupend (o .result .«record» .regs .words) ≡ setupend (k .regs .words)
   pub rest : SameRest (k .regs .words) (o .result .«record» .regs .words)
   pub parts : SameParts k (o .result .«record»)
   pub list : o .list ≡ writeList l e n (sendValue (sideAt (k .regs .words) e In))
@@ -79,17 +62,12 @@ pub record Takes (k : Record) (e : ℕ) (l : List ℕ) (o : ReadOutcome) : Type 
   pub bits : SameBits (sideAt (k .regs .words) e Out) (sideAt (o .result .«record» .regs .words) e Out)
   pub others : (f : ℕ) (c : Direction) → (f ≡ e → c ≡ Out → ⊥) → sideAt (o .result .«record» .regs .words) f c ≡ sideAt (k .regs .words) f c
   pub selected : index (o .result .«record» .regs .words) ≡ e
+  pub enabled : (d : Direction) → enabledOf d (o .result .«record» .regs .words) ≡ enabledOf d (k .regs .words)
+  pub ended : setupend (o .result .«record» .regs .words) ≡ setupend (k .regs .words)
   pub rest : SameRest (k .regs .words) (o .result .«record» .regs .words)
   pub parts : SameParts k (o .result .«record»)
   pub list : o .list ≡ listed (listed l 0 INDEX e e) 1 RXCSRL e (takeValue (sideAt (k .regs .words) e Out))
   pub count : o .result .stores ≡ 2
-
--- "a write .. changes only the first bytes of its area": those of an answered write at any endpoint e, in e's own transmit area
-pub record Fills (k : Record) (e : ℕ) (bytes fifo : List ℕ) (o : WriteOutcome) : Type 0 where
-  pub fits : length bytes ≤ areaOf k e In .size
-  pub inside : (i : ℕ) → i < length bytes → getD (o .fifo) (areaOf k e In .start + i) 0 ≡ getD bytes i 0
-  pub outside : (j : ℕ) → (j < areaOf k e In .start) ⊎ (areaOf k e In .start + length bytes ≤ j) → getD (o .fifo) j 0 ≡ getD fifo j 0
-  pub whole : length (o .fifo) ≡ length fifo
 
 -- "Read copies the shorter of packet and buffer": an answered read at any endpoint e, from e's own receive area; what the packet is too
 -- short for stays

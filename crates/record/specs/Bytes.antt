@@ -1,4 +1,4 @@
--- What an arrival puts into FIFO memory, beside its definition and apart from it.
+-- What a write or an arrival puts into FIFO memory, beside their definitions and apart from them.
 -- Assumes nothing.
 use Prim.Native.Nat.{ℕ, _+_, _≤_, _<_}
 use mathlib.Core.Path.{_≡_}
