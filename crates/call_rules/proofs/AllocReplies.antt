@@ -1,10 +1,10 @@
 -- Which reply `alloc_ep` gives: the number of the first of its rows that holds; and that a refused one changes nothing.
 -- Assumes nothing.
-use Prim.Native.Nat.{ℕ}
 use mathlib.Core.Path.{_≡_, refl, sym, ap, _∙_}
 use mathlib.Core.Logic.{inl, inr}
 use mathlib.Core.Bool.{Bool, true, false}
 use native.Mathlib.Omega.{arith}
+use Rattle.laws.proofs.Tests.{clash}
 use Rattle.board.specs.Boards.{rows}
 use Rattle.endpoints.specs.Endpoints.{Ask}
 use Rattle.endpoints.specs.Numbers.{errorNumber, answerNumber}
@@ -23,11 +23,8 @@ use Rattle.record.specs.Record.{recordSound, SoundRecord, admissionBy, withEndp
 use Rattle.record.specs.Rows.{Given}
 use Rattle.record.proofs.Passing.{record-is-sound, sound-record-passes}
 use Rattle.record.proofs.Rows.{exactly}
-use Rattle.call_rules.specs.Alloc.{allocated, handed, unlessAllocated, allocEp, allocEpCall, allocationNumber}
+use Rattle.call_rules.specs.Alloc.{allocated, handed, unlessAllocated, allocEp, allocEpCall, allocNumber}
 use Rattle.call_rules.specs.AllocReplies.{allocRows, Allocates}
-
-clash : {A : Type 0} → false ≡ true → A
-clash e = let z : _≡_ {A = ℕ} 0 1 = cc in absurd (omega arith)
 
 fails : (b : Bool) → (b ≡ true → ⊥) → b ≡ false
 fails true n = absurd (n refl)
@@ -70,32 +67,32 @@ module _ (k : Record) (q : Ask) (w : Wanted) where
       inr (λ b. b s, inr (unsaid EndpointOverflow e (λ z. omega arith), inl (says InvalidEndpoint e, refl)))
   meets s (answer.Refused MaxPacketSizeBiggerThanEpFifoSize) e =
       let g = says MaxPacketSizeBiggerThanEpFifoSize e in
-      inr (λ b. b s, inr (unsaid EndpointOverflow e (λ z. omega arith), inr (λ p. clash (sym (g .0) ∙ p), inl (g .1, refl))))
+      inr (λ b. b s, inr (unsaid EndpointOverflow e (λ z. omega arith), inr (λ p. clash (sym p ∙ g .0), inl (g .1, refl))))
   meets s (answer.Refused EpDirNotSupported) e =
       let g = says EpDirNotSupported e in
-      inr (λ b. b s, inr (unsaid EndpointOverflow e (λ z. omega arith), inr (λ p. clash (sym (g .0) ∙ p), inr (λ p. clash (sym (g .1) ∙ p), inl (g .2, refl)))))
+      inr (λ b. b s, inr (unsaid EndpointOverflow e (λ z. omega arith), inr (λ p. clash (sym p ∙ g .0), inr (λ p. clash (sym p ∙ g .1), inl (g .2, refl)))))
   meets s (answer.Refused EpUsed) e =
       let g = says EpUsed e in
       inr (
         λ b. b s,
         inr (
           unsaid EndpointOverflow e (λ z. omega arith),
-          inr (λ p. clash (sym (g .0) ∙ p), inr (λ p. clash (sym (g .1) ∙ p), inr (λ p. clash (sym (g .2) ∙ p), inl (g .3, refl)))),
+          inr (λ p. clash (sym p ∙ g .0), inr (λ p. clash (sym p ∙ g .1), inr (λ p. clash (sym p ∙ g .2), inl (g .3, refl)))),
         ),
       )
 
-  same-number : (a : Answer) → allocationNumber (allocated a) ≡ answerNumber a
+  same-number : (a : Answer) → allocNumber (allocated a) ≡ answerNumber a
   same-number (answer.Done n) = refl
   same-number (answer.Refused x) = refl
 
-  kept : (a : Answer) → given .answer ≡ a → (allocationNumber (allocated a) ≡ 0 → ⊥) → withEndpoints k (given .endpoints) ≡ k
+  kept : (a : Answer) → given .answer ≡ a → (allocNumber (allocated a) ≡ 0 → ⊥) → withEndpoints k (given .endpoints) ≡ k
   kept (answer.Done n) e some = absurd (some refl)
   kept (answer.Refused x) e some = ap (withEndpoints k) (refused-keeps (rows (k .regs .board)) (k .endpoints) q w x e)
 
   allocates : (b : Bool) → recordSound k ≡ b → Allocates (unlessAllocated (admissionBy false b false) k (handed k given)) k given (allocRows k q w)
   unfolding Given
   allocates false e = record {
-    replies = exactly (allocRows k q w) (inl (λ s. clash (sym e ∙ sound-record-passes k s), refl));
+    replies = exactly (allocRows k q w) (inl (λ s. clash (sym (sound-record-passes k s) ∙ e), refl));
     asked = λ z. absurd (omega arith);
     unchanged = λ some. refl;
   }

@@ -3,23 +3,30 @@ use Prim.Native.Nat.{ℕ}
 use mathlib.Core.Path.{_≡_, refl}
 use mathlib.Core.Bool.{Bool, true, false, not, cond}
 use mathlib.Core.List.{List}
+use native.Mathlib.Omega.{arith}
 use lib.Dec.{leb}
 use lib.ListN.{length}
 use Rattle.control_state.specs.declared.ControlState.{ControlState}
 use Rattle.store_rules.specs.Stores.{Log, writeFaddr}
 use Rattle.common_rules.specs.Common.{busInit}
 use Rattle.record.specs.declared.Record.{Record}
+use Rattle.record.specs.declared.Refusal.{Refusal}
 use Rattle.record.specs.declared.Admission.{Admission}
 use Rattle.record.specs.declared.Admission.the-variants.{Clear, Refused}
 use Rattle.record.specs.Record.{admissionNumber, recordSound, endpointsOf, admissionBy}
 use Rattle.record.specs.Rows.{Row, Given}
 use Rattle.record.proofs.Rows.{exactly, none-left, tested, tells-under, tells-from, tells-over, tells-bad, first-all, first-lent}
-use Rattle.call_rules.specs.Calls.{Outcome, stored, unless, short, begun, beyond, addressEntry, busInitCall, enableCall, addressCall, forceResetCall, replyNumber}
+use Rattle.call_rules.specs.declared.Reply.the-variants as reply
+use Rattle.call_rules.specs.Calls.{CallOutcome, stored, unless, short, begun, beyond, addressEntry, busInitCall, enableCall, addressCall, forceResetCall, replyNumber}
 use Rattle.call_rules.specs.Replies.{listRows, addressRows, endpointRows, Answers}
+
+-- a call that is refused is not done
+pub not-refused : {A : Type 0} {x : Refusal} → reply.Refused x ≡ reply.Done → A
+not-refused e = let z : _≡_ {A = ℕ} 0 1 = cc in absurd (omega arith)
 
 -- what a call leaves, by what its tests came to
 module _ (k : Record) (l : List ℕ) (c : ControlState) (g : Log) where
-  abbrev left : Admission → Outcome
+  abbrev left : Admission → CallOutcome
   left t = unless t k l (stored k c g)
 
   same-number : (t : Admission) → replyNumber (left t .call .answer) ≡ admissionNumber t

@@ -13,7 +13,7 @@ use Rattle.board.specs.declared.Direction.{Direction}
 use Rattle.board.specs.declared.Direction.the-variants.{Out, In}
 use Rattle.board.specs.Boards.{rows, at-most-six}
 use Rattle.csr.specs.declared.Side.{Side}
-use Rattle.csr.proofs.Sides.{same-direction}
+use Rattle.csr.proofs.Sides.{same-direction, in-out, out-in}
 use Rattle.register_file.specs.Registers.{Whole, sideAt, faddr, enabledOf}
 use Rattle.endpoints.specs.declared.EndpointData.{EndpointData}
 use Rattle.endpoints.specs.Endpoints.{blank, kindOf, sizeIn, usedIn, used}
@@ -25,7 +25,6 @@ use Rattle.common_rules.specs.Enable.{isochronous, epTxEnable, epRxEnable}
 use Rattle.common_rules.specs.Enabling.{Raised, Ready, Enables, EnablesZero}
 use Rattle.common_rules.proofs.Enabling.{tx-enables, rx-enables, tx-enables-zero, rx-enables-zero}
 use Rattle.record.specs.declared.Record.{Record}
-use Rattle.record.specs.declared.Refusal.{Refusal}
 use Rattle.record.specs.declared.Admission.{Admission}
 use Rattle.record.specs.declared.Admission.the-variants.{Clear, Refused}
 use Rattle.record.specs.Record.{recordSound, admissionBy, endpointsIn, endpointsOf}
@@ -35,6 +34,7 @@ use Rattle.call_rules.specs.declared.Reply.the-variants as reply
 use Rattle.call_rules.specs.Calls.{stored, unless, short, begun, idled}
 use Rattle.call_rules.specs.Reset.{txEnabled, rxEnabled, usedEnabled, enabledBelow, resetStores, resetCall}
 use Rattle.call_rules.specs.Resetting.{Resets}
+use Rattle.call_rules.proofs.Replies.{not-refused}
 
 -- a bit that is up stays up where another is raised
 word-up : (e j : ℕ) {v w : ℕ} → j < 16 → Raised e v w → bit v j ≡ true → bit w j ≡ true
@@ -129,12 +129,6 @@ module _ (p : EndpointData) (a : Log) (six : Whole (a .regs)) where
       go n low false = not-used Out n kind (sizeIn p Out) a six
       go zero low true = zero-used Out kind (sizeIn p Out) a _ six (rx-enables-zero a six (p .«ep_conf»))
       go (suc n) low true = other-used Out (suc n) kind (sizeIn p Out) a _ six (λ z. omega arith) (rx-enables (suc n) (p .«ep_conf») a six (λ z. omega arith) low)
-
-out-in : Out ≡ In → ⊥
-out-in p = let z : _≡_ {A = ℕ} 0 1 = cc in omega arith
-
-in-out : In ≡ Out → ⊥
-in-out p = let z : _≡_ {A = ℕ} 0 1 = cc in omega arith
 
 -- every endpoint below n
 module _ (es : List EndpointData) (g : Log) where
@@ -285,9 +279,6 @@ module _ (es : List EndpointData) (g : Log) where
   }
   all-below (suc n) le six = one-more n (enabledBelow es n g) (omega arith) (all-below n (omega arith) six)
 
-clash-reply : {A : Type 0} {x : Refusal} → reply.Refused x ≡ reply.Done → A
-clash-reply e = let z : _≡_ {A = ℕ} 0 1 = cc in absurd (omega arith)
-
 pub reset : (k : Record) (l : List ℕ) → Whole (k .regs .words) → resetCall k l .call .answer ≡ reply.Done → Resets k (resetCall k l .call .«record»)
 unfolding resetCall resetStores endpointsOf endpointsIn idled
 reset k l six a = go (admissionBy (short l) (recordSound k) false) refl a
@@ -298,7 +289,7 @@ reset k l six a = go (admissionBy (short l) (recordSound k) false) refl a
     go : (t : Admission) → admissionBy (short l) (recordSound k) false ≡ t
         → unless t k l (stored k (idled (k .«control_state»)) (resetStores k (begun k l))) .call .answer ≡ reply.Done
         → Resets k (unless t k l (stored k (idled (k .«control_state»)) (resetStores k (begun k l))) .call .«record»)
-    go (Refused x) p q = clash-reply q
+    go (Refused x) p q = not-refused q
     go Clear p q =
         let s = record-is-sound k (none-refused (short l) (recordSound k) false p .1) in
         let g = begun k l in

@@ -20,9 +20,8 @@ use Rattle.call_rules.specs.declared.Ran.{Ran}
 use Rattle.call_rules.specs.Calls.{short, begun, beyond, left, ended}
 use Rattle.call_rules.proofs.Calls.{together}
 use Rattle.call_rules.specs.declared.StalledAnswer.the-variants as told
-use Rattle.call_rules.specs.declared.StalledCalled.{StalledCalled}
-use Rattle.call_rules.specs.declared.Asked.{Asked}
-use Rattle.call_rules.specs.Stall.{ToldOutcome, toldOf, unlessTold, epStall, afterStall, setStalledCall, setStalledRan, ToldLeft, toldLeft, askedOf, askedUnless, isStalledCall, isStalledRan}
+use Rattle.call_rules.specs.declared.StalledRan.{StalledRan}
+use Rattle.call_rules.specs.Stall.{StalledOutcome, stalledOf, unlessStalled, epStall, afterStall, setStalledCall, setStalledRan, StalledLeft, stalledLeft, stalledRanOf, stalledRanUnless, isStalledCall, isStalledRan}
 
 -- the parts put together are what the call leaves
 module _ (k : Record) (e : ℕ) (d : Direction) (l : List ℕ) where
@@ -36,24 +35,24 @@ module _ (k : Record) (e : ℕ) (d : Direction) (l : List ℕ) where
 -- what runs below `is_stalled`, by its parts
 module _ (w : File) (l : List ℕ) where
   pub telling : {t u : Admission} {o : Stalled} {v : File} {m : List ℕ} {b : Bool} (g : Log) → t ≡ u → t ≡ Clear
-      → log v m (o .n) ≡ g → o .stalled ≡ b → toldLeft (record { answer = told.Done (o .stalled); n = o .n }) v m ≡ askedUnless u (log w l 0) (askedOf b g)
-  telling {o = o} g is e s q = rw (← q, sym is ∙ e) (ap (askedOf (o .stalled)) s)
+      → log v m (o .n) ≡ g → o .stalled ≡ b → stalledLeft (record { answer = told.Done (o .stalled); n = o .n }) v m ≡ stalledRanUnless u (log w l 0) (stalledRanOf b g)
+  telling {o = o} g is e s q = rw (← q, sym is ∙ e) (ap (stalledRanOf (o .stalled)) s)
 
-  pub not-telling : {t u : Admission} {x : Refusal} (o : ToldLeft) → t ≡ u → t ≡ Refused x
-      → toldLeft (record { answer = told.Refused x; n = 0 }) w l ≡ askedUnless u (log w l 0) o
+  pub not-telling : {t u : Admission} {x : Refusal} (o : StalledLeft) → t ≡ u → t ≡ Refused x
+      → stalledLeft (record { answer = told.Refused x; n = 0 }) w l ≡ stalledRanUnless u (log w l 0) o
   not-telling o is e = rw (sym is ∙ e)
 
-told-whole : Record → ToldLeft → ToldOutcome
-told-whole k o = record { call = record { answer = o .asked .answer; «record» = withRegs k (o .regs); stores = o .asked .n }; list = o .list }
+told-whole : Record → StalledLeft → StalledOutcome
+told-whole k o = record { call = record { answer = o .ran .answer; «record» = withRegs k (o .regs); stores = o .ran .n }; list = o .list }
 
 told-together : (k : Record) (l : List ℕ) (t : Admission) (b : Bool) (g : Log)
-    → told-whole k (askedUnless t (begun k l) (askedOf b g)) ≡ unlessTold t k l (toldOf k b g)
+    → told-whole k (stalledRanUnless t (begun k l) (stalledRanOf b g)) ≡ unlessStalled t k l (stalledOf k b g)
 unfolding told-whole
 told-together k l Clear b g = refl
 told-together k l (Refused x) b g = refl
 
-pub asked-whole : (k : Record) (e : ℕ) (d : Direction) (l : List ℕ) {o : Asked} {w : File} {m : List ℕ}
-    → toldLeft o w m ≡ isStalledRan (k .regs .board) (k .irq) e d (begun k l)
+pub asked-whole : (k : Record) (e : ℕ) (d : Direction) (l : List ℕ) {o : StalledRan} {w : File} {m : List ℕ}
+    → stalledLeft o w m ≡ isStalledRan (k .regs .board) (k .irq) e d (begun k l)
     → record { call = record { answer = o .answer; «record» = withRegs k w; stores = o .n }; list = m } ≡ isStalledCall k e d l
 unfolding isStalledCall isStalledRan recordSound endpointsOf told-whole
 asked-whole k e d l p =

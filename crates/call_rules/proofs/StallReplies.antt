@@ -17,7 +17,7 @@ use Rattle.call_rules.specs.Calls.{short, begun, beyond}
 use Rattle.call_rules.specs.Replies.{endpointRows, Answers}
 use Rattle.call_rules.proofs.Replies.{answers, at-endpoint}
 use Rattle.call_rules.specs.declared.StalledAnswer.the-variants as told
-use Rattle.call_rules.specs.Stall.{epStall, afterStall, setStalledCall, isStalledCall, ToldOutcome, toldOf, toldNumber, unlessTold}
+use Rattle.call_rules.specs.Stall.{epStall, afterStall, setStalledCall, isStalledCall, StalledOutcome, stalledOf, stalledNumber, unlessStalled}
 use Rattle.call_rules.specs.StallReplies.{Tells}
 
 -- the calls
@@ -30,23 +30,23 @@ module _ (k : Record) (l : List ℕ) where
 
 -- `is_stalled`
 module _ (k : Record) (l : List ℕ) (b : Bool) (g : Log) where
-  abbrev left : Admission → ToldOutcome
-  left t = unlessTold t k l (toldOf k b g)
+  abbrev left : Admission → StalledOutcome
+  left t = unlessStalled t k l (stalledOf k b g)
 
-  same-number : (t : Admission) → toldNumber (left t .call .answer) ≡ admissionNumber t
+  same-number : (t : Admission) → stalledNumber (left t .call .answer) ≡ admissionNumber t
   same-number Clear = refl
   same-number (Refused x) = refl
 
-  told-value : (t : Admission) → toldNumber (left t .call .answer) ≡ 0 → left t .call .answer ≡ told.Done b
+  told-value : (t : Admission) → stalledNumber (left t .call .answer) ≡ 0 → left t .call .answer ≡ told.Done b
   told-value Clear z = refl
   told-value (Refused x) z = absurd (not-zero x z)
 
-  kept : (t : Admission) → (toldNumber (left t .call .answer) ≡ 0 → ⊥)
+  kept : (t : Admission) → (stalledNumber (left t .call .answer) ≡ 0 → ⊥)
       → left t ≡ record { call = record { answer = left t .call .answer; «record» = k; stores = 0 }; list = l }
   kept Clear n = absurd (n refl)
   kept (Refused x) n = refl
 
-  tells : (t : Admission) (rs : List Row) → Given (admissionNumber t) rs → Tells (unlessTold t k l (toldOf k b g)) k l rs b
+  tells : (t : Admission) (rs : List Row) → Given (admissionNumber t) rs → Tells (unlessStalled t k l (stalledOf k b g)) k l rs b
   tells t rs r = record { replies = exactly rs (rw (same-number t) r); value = told-value t; unchanged = kept t }
 
 pub is-stalled : (k : Record) (e : ℕ) (d : Direction) (l : List ℕ)

@@ -17,15 +17,15 @@ use Rattle.store_rules.specs.Stores.{Log}
 use Rattle.common_rules.specs.Stalling.{Stalls, StallsZero}
 use Rattle.common_rules.proofs.Stalling.{tx-stalls, rx-stalls, tx-stalls-zero, rx-stalls-zero}
 use Rattle.record.specs.declared.Record.{Record}
-use Rattle.record.specs.declared.Refusal.{Refusal}
 use Rattle.record.specs.declared.Admission.{Admission}
 use Rattle.record.specs.declared.Admission.the-variants.{Clear, Refused}
 use Rattle.record.specs.Record.{recordSound, admissionBy, endpointsIn, endpointsOf}
 use Rattle.record.proofs.Rows.{none-refused}
 use Rattle.call_rules.specs.declared.Reply.the-variants as reply
-use Rattle.call_rules.specs.Calls.{Outcome, stored, unless, short, begun, idled, beyond}
+use Rattle.call_rules.specs.Calls.{stored, unless, short, begun, idled, beyond}
 use Rattle.call_rules.specs.Stall.{epStall, afterStall, setStalledCall}
 use Rattle.call_rules.specs.Stalling.{SetStalled}
+use Rattle.call_rules.proofs.Replies.{not-refused}
 
 -- by direction
 module _ (e : ℕ) (b : Bool) (g : Log) (six : Whole (g .regs)) where
@@ -57,9 +57,6 @@ module _ (e : ℕ) (c : ControlState) where
       go true false p q = refl
       go false y p q = refl
 
-clash : {A : Type 0} {x : Refusal} → reply.Refused x ≡ reply.Done → A
-clash e = let z : _≡_ {A = ℕ} 0 1 = cc in absurd (omega arith)
-
 pub set-stalled : (k : Record) (e : ℕ) (d : Direction) (b : Bool) (l : List ℕ) → Whole (k .regs .words)
     → setStalledCall k e d b l .call .answer ≡ reply.Done → SetStalled k e d b l (setStalledCall k e d b l)
 unfolding setStalledCall endpointsOf endpointsIn
@@ -71,7 +68,7 @@ set-stalled k e d b l six a = go (admissionBy (short l) (recordSound k) (beyond 
     go : (t : Admission) → admissionBy (short l) (recordSound k) (beyond k e) ≡ t
         → unless t k l (stored k (afterStall e b (k .«control_state»)) (epStall d e b (begun k l))) .call .answer ≡ reply.Done
         → SetStalled k e d b l (unless t k l (stored k (afterStall e b (k .«control_state»)) (epStall d e b (begun k l))))
-    go (Refused x) p q = clash q
+    go (Refused x) p q = not-refused q
     go Clear p q = record {
       other = other e b (begun k l) six d (low (none-refused (short l) (recordSound k) _ p .2));
       zero = zero e b (begun k l) six d;

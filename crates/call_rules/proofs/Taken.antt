@@ -11,9 +11,8 @@ use Rattle.laws.specs.Words.{bit, raised}
 use Rattle.laws.proofs.Words.{bit-raised}
 use Rattle.laws.proofs.Tests.{or-zero, or-one}
 use Rattle.board.specs.declared.Direction.the-variants.{Out, In}
-use Rattle.register_file.specs.Registers.{File, Whole, intrusb, intrOf}
-use Rattle.event_rules.specs.declared.BusEvent.the-variants.{Suspend}
-use Rattle.event_rules.specs.Events.{busBit, intrusbCleared, intrCleared}
+use Rattle.register_file.specs.Registers.{File, Whole, intrOf}
+use Rattle.event_rules.specs.Events.{intrusbCleared, intrCleared}
 use Rattle.event_rules.proofs.Promises.{usb-rest, word-rest}
 use Rattle.event_rules.proofs.Others.{usb-clears, tx-clears, rx-clears}
 use Rattle.laws.specs.Lists.{numbers}

@@ -21,7 +21,7 @@ use Rattle.record.specs.Record.{recordSound, admissionBy, refusalNumber, withEn
 use Rattle.call_rules.specs.declared.AllocAnswer.{AllocAnswer}
 use Rattle.call_rules.specs.declared.AllocAnswer.the-variants as allocation
 use Rattle.call_rules.specs.declared.AllocCalled.{AllocCalled}
-use Rattle.call_rules.specs.declared.Assigned.{Assigned}
+use Rattle.call_rules.specs.declared.AllocRan.{AllocRan}
 
 -- `alloc_ep`: what alloc_endpoint answers and the endpoints that it gives back. No list is lent.
 abbrev pub allocated : Answer → AllocAnswer
@@ -42,18 +42,18 @@ unfoldable pub allocEpCall : Record → Ask → Wanted → AllocCalled
 allocEpCall k q w = unlessAllocated (admissionBy false (recordSound k) false) k (allocEp k q w)
 
 -- the same by the parts of the record that it looks at and changes: the endpoints alone. Of the first tests only reply 16's is left.
-abbrev pub assigned : Allocated → Assigned
-assigned o = record { answer = allocated (o .answer); endpoints = o .endpoints }
+abbrev pub allocRan : Allocated → AllocRan
+allocRan o = record { answer = allocated (o .answer); endpoints = o .endpoints }
 
-unfoldable pub assignedIf : Bool → List Row → List EndpointData → Ask → Wanted → Assigned
-assignedIf ok t es q w = cond ok (assigned (allocate t es q w)) (record { answer = allocation.Refused BadRecord; endpoints = es })
+unfoldable pub allocRanIf : Bool → List Row → List EndpointData → Ask → Wanted → AllocRan
+allocRanIf ok t es q w = cond ok (allocRan (allocate t es q w)) (record { answer = allocation.Refused BadRecord; endpoints = es })
 
-abbrev pub allocationNumber : AllocAnswer → ℕ
-allocationNumber (allocation.Done n) = 0
-allocationNumber (allocation.NotGiven x) = errorNumber x
-allocationNumber (allocation.Refused x) = refusalNumber x
+abbrev pub allocNumber : AllocAnswer → ℕ
+allocNumber (allocation.Done n) = 0
+allocNumber (allocation.NotGiven x) = errorNumber x
+allocNumber (allocation.Refused x) = refusalNumber x
 
-abbrev pub allocationValues : AllocAnswer → List ℕ
-allocationValues (allocation.Done n) = n ∷ []
-allocationValues (allocation.NotGiven x) = []
-allocationValues (allocation.Refused x) = []
+abbrev pub allocValues : AllocAnswer → List ℕ
+allocValues (allocation.Done n) = n ∷ []
+allocValues (allocation.NotGiven x) = []
+allocValues (allocation.Refused x) = []

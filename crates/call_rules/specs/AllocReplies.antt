@@ -1,6 +1,5 @@
 -- Document 01's table of replies, the rows of `alloc_ep`, and what is promised of its answer.
 -- Assumes nothing.
-use Prim.Native.Nat.{ℕ}
 use mathlib.Core.Path.{_≡_}
 use mathlib.Core.Bool.{true}
 use mathlib.Core.List.{List, [], _∷_}
@@ -13,7 +12,7 @@ use Rattle.record.specs.declared.Record.{Record}
 use Rattle.record.specs.Record.{SoundRecord}
 use Rattle.record.specs.Rows.{Row, row, Replies}
 use Rattle.call_rules.specs.declared.AllocCalled.{AllocCalled}
-use Rattle.call_rules.specs.Alloc.{handed, allocationNumber}
+use Rattle.call_rules.specs.Alloc.{handed, allocNumber}
 
 -- "Order: .. 16, .. allocation 2, 5, 3, 4", each row as alloc_endpoint's table has it; 1 is the row of a call that wants no number
 abbrev pub allocRows : Record → Ask → Wanted → List Row
@@ -29,6 +28,6 @@ allocRows k q w =
 -- its number is given exactly when its row is the first that holds, 0 where none does; then all is as alloc_endpoint leaves it; a refused call
 -- changes nothing
 pub record Allocates (a : AllocCalled) (k : Record) (o : Allocated) (rs : List Row) : Type 0 where
-  pub replies : Replies (allocationNumber (a .answer)) rs
-  pub asked : allocationNumber (a .answer) ≡ 0 → a ≡ handed k o
-  pub unchanged : (allocationNumber (a .answer) ≡ 0 → ⊥) → a .«record» ≡ k
+  pub replies : Replies (allocNumber (a .answer)) rs
+  pub asked : allocNumber (a .answer) ≡ 0 → a ≡ handed k o
+  pub unchanged : (allocNumber (a .answer) ≡ 0 → ⊥) → a .«record» ≡ k

@@ -25,7 +25,7 @@ use Rattle.call_rules.specs.declared.Called.{Called}
 use Rattle.call_rules.specs.declared.Ran.{Ran}
 
 -- all that a call leaves: what it gives back, and the lent list
-pub record Outcome : Type 0 where
+pub record CallOutcome : Type 0 where
   pub call : Called
   pub list : List ℕ
 
@@ -37,11 +37,11 @@ refused k x = record { answer = reply.Refused x; «record» = k; stores = 0 }
 abbrev pub done : Record → ControlState → File → ℕ → Called
 done k c r n = record { answer = reply.Done; «record» = withRegs (withControl k c) r; stores = n }
 
-abbrev pub stored : Record → ControlState → Log → Outcome
+abbrev pub stored : Record → ControlState → Log → CallOutcome
 stored k c g = record { call = done k c (g .regs) (g .count); list = g .list }
 
 -- the tests decide first
-abbrev pub unless : Admission → Record → List ℕ → Outcome → Outcome
+abbrev pub unless : Admission → Record → List ℕ → CallOutcome → CallOutcome
 unless (Refused x) k l o = record { call = refused k x; list = l }
 unless Clear k l o = o
 
@@ -54,11 +54,11 @@ abbrev pub begun : Record → List ℕ → Log
 begun k l = log (k .regs .words) l 0
 
 -- `bus_init`
-unfoldable pub busInitCall : Record → List ℕ → Outcome
+unfoldable pub busInitCall : Record → List ℕ → CallOutcome
 busInitCall k l = unless (admissionBy (short l) (recordSound k) false) k l (stored k (k .«control_state») (busInit (begun k l)))
 
 -- `enable`: `faddr().write(|w| w.set_func_addr(0))`
-unfoldable pub enableCall : Record → List ℕ → Outcome
+unfoldable pub enableCall : Record → List ℕ → CallOutcome
 enableCall k l = unless (admissionBy (short l) (recordSound k) false) k l (stored k (k .«control_state») (writeFaddr 0 (begun k l)))
 
 -- `set_state(ControlStateEnum::Idle)`, `reset_tx_len()`
@@ -72,7 +72,7 @@ addressEntry Clear true = Clear
 addressEntry Clear false = Refused BadAddress
 
 -- `set_device_address`: `faddr().write(|w| w.set_func_addr(addr))`
-unfoldable pub addressCall : Record → ℕ → List ℕ → Outcome
+unfoldable pub addressCall : Record → ℕ → List ℕ → CallOutcome
 addressCall k a l =
     unless (addressEntry (admissionBy (short l) (recordSound k) false) (leb a 127)) k l (stored k (k .«control_state») (writeFaddr a (begun k l)))
 
@@ -116,7 +116,7 @@ ranUnless Clear c g o = o
 abbrev pub ended : Record → File → Ran → Called
 ended k w o = record { answer = o .answer; «record» = withRegs (withControl k (o .«control_state»)) w; stores = o .n }
 
-abbrev pub whole : Record → Left → Outcome
+abbrev pub whole : Record → Left → CallOutcome
 whole k o = record { call = ended k (o .regs) (o .ran); list = o .list }
 
 -- the tests by the parts, of a call that lends a list

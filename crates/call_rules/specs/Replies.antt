@@ -7,7 +7,7 @@ use lib.ListN.{length}
 use Rattle.record.specs.declared.Record.{Record}
 use Rattle.record.specs.Record.{endpointsOf, SoundRecord}
 use Rattle.record.specs.Rows.{Row, row, Replies}
-use Rattle.call_rules.specs.Calls.{Outcome, replyNumber}
+use Rattle.call_rules.specs.Calls.{CallOutcome, replyNumber}
 
 -- the rows of each call, in document 01's order, "15, 16, 8, then .. address 14": "list under 384 numbers", a record that does not pass,
 -- "endpoint 6 or more" (the board's own last endpoint being the highest), "address over 127"
@@ -22,6 +22,6 @@ endpointRows k e l = row 15 (length l < 384) ∷ row 16 (SoundRecord k → ⊥) 
 
 -- a call's answer: its number is given exactly when its row is the first that holds, 0 where none does; "A refusal returns its number and
 -- changes nothing": the record and the list are as they were, and no store is counted
-pub record Answers (o : Outcome) (k : Record) (l : List ℕ) (rs : List Row) : Type 0 where
+pub record Answers (o : CallOutcome) (k : Record) (l : List ℕ) (rs : List Row) : Type 0 where
   pub replies : Replies (replyNumber (o .call .answer)) rs
   pub unchanged : (replyNumber (o .call .answer) ≡ 0 → ⊥) → o ≡ record { call = record { answer = o .call .answer; «record» = k; stores = 0 }; list = l }

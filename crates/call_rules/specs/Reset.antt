@@ -13,7 +13,7 @@ use Rattle.common_rules.specs.Enable.{epTxEnable, epRxEnable}
 use Rattle.record.specs.declared.Flags.{Flags}
 use Rattle.record.specs.declared.Record.{Record}
 use Rattle.record.specs.Record.{recordSound, admissionBy, endpointsIn, endpointsOf}
-use Rattle.call_rules.specs.Calls.{Outcome, stored, unless, short, begun, idled, Left, ranStored, ranUnless, admitted}
+use Rattle.call_rules.specs.Calls.{CallOutcome, stored, unless, short, begun, idled, Left, ranStored, ranUnless, admitted}
 
 -- the body of `reset`'s `for_each`: `if ep.used_tx { .. }`, then `if ep.used_rx { .. }`
 unfoldable pub txEnabled : ℕ → EndpointData → Log → Log
@@ -35,7 +35,7 @@ unfoldable pub resetStores : Record → Log → Log
 resetStores k g = enabledBelow (k .endpoints) (endpointsOf k) (writePower g)
 
 -- `reset`
-unfoldable pub resetCall : Record → List ℕ → Outcome
+unfoldable pub resetCall : Record → List ℕ → CallOutcome
 resetCall k l = unless (admissionBy (short l) (recordSound k) false) k l (stored k (idled (k .«control_state»)) (resetStores k (begun k l)))
 
 -- by the parts of the record

@@ -20,10 +20,10 @@ use Rattle.record.specs.Record.{recordSound, admissionBy, endpointsIn, refusalN
 use Rattle.call_rules.specs.declared.StalledAnswer.{StalledAnswer}
 use Rattle.call_rules.specs.declared.StalledAnswer.the-variants as told
 use Rattle.call_rules.specs.declared.StalledCalled.{StalledCalled}
-use Rattle.call_rules.specs.declared.Asked.{Asked}
-use Rattle.call_rules.specs.Calls.{Outcome, stored, unless, short, begun, idled, beyond, Left, ranStored, ranUnless, admitted}
+use Rattle.call_rules.specs.declared.StalledRan.{StalledRan}
+use Rattle.call_rules.specs.Calls.{CallOutcome, stored, unless, short, begun, idled, beyond, Left, ranStored, ranUnless, admitted}
 
-pub record ToldOutcome : Type 0 where
+pub record StalledOutcome : Type 0 where
   pub call : StalledCalled
   pub list : List ℕ
 
@@ -37,7 +37,7 @@ unfoldable pub afterStall : ℕ → Bool → ControlState → ControlState
 afterStall e stalled c = cond (eqb e 0 && stalled) (idled c) c
 
 -- `set_stalled`
-unfoldable pub setStalledCall : Record → ℕ → Direction → Bool → List ℕ → Outcome
+unfoldable pub setStalledCall : Record → ℕ → Direction → Bool → List ℕ → CallOutcome
 setStalledCall k e d stalled l =
     unless (admissionBy (short l) (recordSound k) (beyond k e)) k l
     (stored k (afterStall e stalled (k .«control_state»)) (epStall d e stalled (begun k l)))
@@ -48,47 +48,47 @@ setStalledRan b c f e d stalled g =
     ranUnless (admitted b f g (leb (endpointsIn b) e)) c g (ranStored (afterStall e stalled c) (epStall d e stalled g))
 
 -- `is_stalled`: all that it stores is the index
-abbrev pub toldDone : Record → Bool → File → ℕ → StalledCalled
-toldDone k b r n = record { answer = told.Done b; «record» = withRegs k r; stores = n }
+abbrev pub stalledDone : Record → Bool → File → ℕ → StalledCalled
+stalledDone k b r n = record { answer = told.Done b; «record» = withRegs k r; stores = n }
 
-abbrev pub toldRefused : Record → Refusal → StalledCalled
-toldRefused k x = record { answer = told.Refused x; «record» = k; stores = 0 }
+abbrev pub stalledRefused : Record → Refusal → StalledCalled
+stalledRefused k x = record { answer = told.Refused x; «record» = k; stores = 0 }
 
-abbrev pub toldOf : Record → Bool → Log → ToldOutcome
-toldOf k b g = record { call = toldDone k b (g .regs) (g .count); list = g .list }
+abbrev pub stalledOf : Record → Bool → Log → StalledOutcome
+stalledOf k b g = record { call = stalledDone k b (g .regs) (g .count); list = g .list }
 
-abbrev pub unlessTold : Admission → Record → List ℕ → ToldOutcome → ToldOutcome
-unlessTold (Refused x) k l o = record { call = toldRefused k x; list = l }
-unlessTold Clear k l o = o
+abbrev pub unlessStalled : Admission → Record → List ℕ → StalledOutcome → StalledOutcome
+unlessStalled (Refused x) k l o = record { call = stalledRefused k x; list = l }
+unlessStalled Clear k l o = o
 
-unfoldable pub isStalledCall : Record → ℕ → Direction → List ℕ → ToldOutcome
+unfoldable pub isStalledCall : Record → ℕ → Direction → List ℕ → StalledOutcome
 isStalledCall k e d l =
-    unlessTold (admissionBy (short l) (recordSound k) (beyond k e)) k l (toldOf k (isStalled d e (begun k l)) (writeIndex e (begun k l)))
+    unlessStalled (admissionBy (short l) (recordSound k) (beyond k e)) k l (stalledOf k (isStalled d e (begun k l)) (writeIndex e (begun k l)))
 
 -- by the parts of the record
-pub record ToldLeft : Type 0 where
-  pub asked : Asked
+pub record StalledLeft : Type 0 where
+  pub ran : StalledRan
   pub regs : File
   pub list : List ℕ
 
-abbrev pub toldLeft : Asked → File → List ℕ → ToldLeft
-toldLeft o w l = record { asked = o; regs = w; list = l }
+abbrev pub stalledLeft : StalledRan → File → List ℕ → StalledLeft
+stalledLeft o w l = record { ran = o; regs = w; list = l }
 
-abbrev pub askedOf : Bool → Log → ToldLeft
-askedOf b g = toldLeft (record { answer = told.Done b; n = g .count }) (g .regs) (g .list)
+abbrev pub stalledRanOf : Bool → Log → StalledLeft
+stalledRanOf b g = stalledLeft (record { answer = told.Done b; n = g .count }) (g .regs) (g .list)
 
-abbrev pub askedUnless : Admission → Log → ToldLeft → ToldLeft
-askedUnless (Refused x) g o = toldLeft (record { answer = told.Refused x; n = 0 }) (g .regs) (g .list)
-askedUnless Clear g o = o
+abbrev pub stalledRanUnless : Admission → Log → StalledLeft → StalledLeft
+stalledRanUnless (Refused x) g o = stalledLeft (record { answer = told.Refused x; n = 0 }) (g .regs) (g .list)
+stalledRanUnless Clear g o = o
 
-unfoldable pub isStalledRan : Board → Flags → ℕ → Direction → Log → ToldLeft
-isStalledRan b f e d g = askedUnless (admitted b f g (leb (endpointsIn b) e)) g (askedOf (isStalled d e g) (writeIndex e g))
+unfoldable pub isStalledRan : Board → Flags → ℕ → Direction → Log → StalledLeft
+isStalledRan b f e d g = stalledRanUnless (admitted b f g (leb (endpointsIn b) e)) g (stalledRanOf (isStalled d e g) (writeIndex e g))
 
-abbrev pub toldNumber : StalledAnswer → ℕ
-toldNumber (told.Done b) = 0
-toldNumber (told.Refused x) = refusalNumber x
+abbrev pub stalledNumber : StalledAnswer → ℕ
+stalledNumber (told.Done b) = 0
+stalledNumber (told.Refused x) = refusalNumber x
 
 -- 1 where it is stalled
-abbrev pub toldValues : StalledAnswer → List ℕ
-toldValues (told.Done b) = cond b 1 0 ∷ []
-toldValues (told.Refused x) = []
+abbrev pub stalledValues : StalledAnswer → List ℕ
+stalledValues (told.Done b) = cond b 1 0 ∷ []
+stalledValues (told.Refused x) = []

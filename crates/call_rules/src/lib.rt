@@ -40,7 +40,7 @@ pub struct AllocCalled {
 }
 
 // The answer and the endpoints, which are all that `alloc_ep` changes.
-pub struct Assigned {
+pub struct AllocRan {
     pub answer: AllocAnswer,
     pub endpoints: [EndpointData; 6],
 }
@@ -58,7 +58,7 @@ pub struct StalledCalled {
 }
 
 // What `is_stalled` leaves besides the registers.
-pub struct Asked {
+pub struct StalledRan {
     pub answer: StalledAnswer,
     pub n: usize,
 }

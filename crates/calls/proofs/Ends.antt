@@ -47,27 +47,27 @@ use Rattle.call_rules.proofs.ResetReplies as simple-reset
 use Rattle.call_rules.specs.StallReplies as stall-rows
 use Rattle.call_rules.proofs.StallReplies as simple-stall
 use Rattle.transfer_rules.specs.WriteTests as write-call
-use Rattle.transfer_rules.specs.WriteZero.{wroteNumber, txSize}
+use Rattle.transfer_rules.specs.WriteZero.{writeNumber, txSize}
 use Rattle.transfer_rules.specs.Write.{WriteOutcome, outcome as write-outcome, writeBy, writeCall}
 use Rattle.transfer_rules.proofs.WriteVerdicts.{tests-are}
-use Rattle.transfer_rules.specs.WriteReplies as write-rows
+use Rattle.transfer_rules.proofs.WriteCases as write-cases
 use Rattle.transfer_rules.proofs.WriteAnswers as writes
 use Rattle.transfer_rules.specs.ReadTests as read-call
-use Rattle.transfer_rules.specs.ReadZero.{gotNumber}
+use Rattle.transfer_rules.specs.ReadZero.{readNumber}
 use Rattle.transfer_rules.specs.Read.{ReadOutcome, readCall}
 use Rattle.transfer_rules.proofs.ReadVerdicts.{told as read-told}
-use Rattle.transfer_rules.specs.ReadReplies as read-rows
+use Rattle.transfer_rules.proofs.ReadCases as read-cases
 use Rattle.transfer_rules.proofs.ReadAnswers as reads
 use Rattle.call_rules.specs.Interrupt.{interruptBy, interruptCall}
 use Rattle.round_rules.specs.Poll.{PollOutcome, outcomeOf, pollNumber, pollWhen, pollAdmitted, pollCall}
 use Rattle.round_rules.proofs.PollReplies as polls
 use Rattle.host_rules.specs.declared.EventCalled.{EventCalled}
 use Rattle.host_rules.specs.declared.CollectAnswer.{CollectAnswer}
-use Rattle.host_rules.specs.declared.CollectAnswer.the-variants as taken
+use Rattle.host_rules.specs.declared.CollectAnswer.the-variants as collect
 use Rattle.host_rules.specs.Host as host
 use Rattle.host_rules.specs.Replies as event-rows
 use Rattle.host_rules.proofs.Replies as events
-use Rattle.calls.specs.Calls.{Op, allocEp, busInit, enable, reset, setDeviceAddress, write, read, setStalled, isStalled, poll, onInterrupt, forceReset, arrival, collection, busReset, suspend, resume, setupEnd, underrun, overrun, Outcome, called, told, allocated, written, fetched, polled, interrupted, happened, arrived, collected, outcome}
+use Rattle.calls.specs.Calls.{Op, allocEp, busInit, enable, reset, setDeviceAddress, write, read, setStalled, isStalled, poll, onInterrupt, forceReset, arrival, collection, busReset, suspend, resume, setupEnd, underrun, overrun, Outcome, called, told, allocated, written, fetched, polled, interrupted, happened, arrived, outcome}
 use Rattle.calls.specs.Demand.{replies, allocReplies, among, noneLent, listLent, lent, unchanged, selected, Blocking, writing, reading}
 use Rattle.laws.proofs.Tests.{clash}
 
@@ -93,13 +93,13 @@ given-among n (r ∷ rs) (inl g) = rw (eq-eqb n (r .number) (g .1))
 given-among n (r ∷ rs) (inr g) = rw (given-among n rs (g .1)) (or-right (eqb n (r .number)))
 
 -- a refused call has no values
-no-told : (a : StalledAnswer) → (impl-stall.toldNumber a ≡ 0 → ⊥) → impl-stall.toldValues a ≡ []
+no-told : (a : StalledAnswer) → (impl-stall.stalledNumber a ≡ 0 → ⊥) → impl-stall.stalledValues a ≡ []
 no-told (stalled.Done b) n = absurd (n refl)
 no-told (stalled.Refused x) n = refl
 
-no-taken : (a : CollectAnswer) (f : List ℕ) → (host.takenNumber a ≡ 0 → ⊥) → host.takenValues a f ≡ []
-no-taken (taken.Done start len) f n = absurd (n refl)
-no-taken (taken.Refused x) f n = refl
+no-taken : (a : CollectAnswer) (f : List ℕ) → (host.collectNumber a ≡ 0 → ⊥) → host.collectValues a f ≡ []
+no-taken (collect.Done start len) f n = absurd (n refl)
+no-taken (collect.Refused x) f n = refl
 
 -- a call whose replies are its rows', 6 not among them: where it is refused, all is as it was
 module _ (k : Record) (o : Op) (rs : List Row) (is : numbers rs ≡ replies o) (no-six : among 6 (replies o) ≡ false) where
@@ -114,27 +114,27 @@ module _ (k : Record) (o : Op) (rs : List Row) (is : numbers rs ≡ replies o) (
       go (no n) =
           refused (x .reply) (ne-eqb _ 6 (λ e. clash (sym told-among ∙ ap (λ (m : ℕ). among m (replies o)) e ∙ no-six))) told-among (left n)
 
-  called-ends : (l : List ℕ) {a : impl.Outcome} → lent o ≡ listLent l → simple-rows.Answers a k l rs → Ends k o (called a)
+  called-ends : (l : List ℕ) {a : impl.CallOutcome} → lent o ≡ listLent l → simple-rows.Answers a k l rs → Ends k o (called a)
   called-ends l {a} p t =
       by-rows (t .replies) (λ n. ap called (t .unchanged n) ∙ ap (unchanged (impl.replyNumber (a .call .answer)) k) (sym p))
 
-  told-ends : (l : List ℕ) {b : Bool} {a : impl-stall.ToldOutcome} → lent o ≡ listLent l → stall-rows.Tells a k l rs b → Ends k o (told a)
+  told-ends : (l : List ℕ) {b : Bool} {a : impl-stall.StalledOutcome} → lent o ≡ listLent l → stall-rows.Tells a k l rs b → Ends k o (told a)
   told-ends l {b} {a} p t =
       by-rows (t .replies)
       (λ n. ap told (t .unchanged n) ∙ (λ i. record {
-        reply = impl-stall.toldNumber (a .call .answer);
+        reply = impl-stall.stalledNumber (a .call .answer);
         values = no-told (a .call .answer) n i;
         «record» = k;
         stores = 0;
         fifo = [];
         list = l;
         buf = [];
-      }) ∙ ap (unchanged (impl-stall.toldNumber (a .call .answer)) k) (sym p))
+      }) ∙ ap (unchanged (impl-stall.stalledNumber (a .call .answer)) k) (sym p))
 
   happened-ends : {a : EventCalled} → lent o ≡ noneLent → event-rows.Answers a k rs → Ends k o (happened a)
   happened-ends {a} p t =
       by-rows (t .replies)
-      (λ n. ap (λ (q : Record). happened (record { answer = a .answer; «record» = q })) (t .unchanged n) ∙ ap (unchanged (host.happenedNumber (a .answer)) k) (sym p))
+      (λ n. ap (λ (q : Record). happened (record { answer = a .answer; «record» = q })) (t .unchanged n) ∙ ap (unchanged (host.eventNumber (a .answer)) k) (sym p))
 
 -- the store that reply 6 has listed, and the endpoint that it has selected
 module _ (k : Record) (e : ℕ) (l : List ℕ) where
@@ -198,7 +198,7 @@ module _ (k : Record) (q : Ask) (w : Wanted) where
   given = allocate (rows (k .regs .board)) (k .endpoints) q w
 
   handed-ends : (a : Answer) → given .answer ≡ a → Ends k (allocEp q w) (allocated (impl-alloc.handed k given))
-  handed-ends (answer.Done n) e = done (alloc-among w .0) (ap (λ (a : Answer). impl-alloc.allocationNumber (impl-alloc.allocated a)) e)
+  handed-ends (answer.Done n) e = done (alloc-among w .0) (ap (λ (a : Answer). impl-alloc.allocNumber (impl-alloc.allocated a)) e)
   handed-ends (answer.Refused x) e =
       refused (errorNumber x) (error-other x)
       (error-among (k .regs .board) (k .endpoints) q w x (alloc.exactly (rows (k .regs .board)) (k .endpoints) q w x .0 (ap answerNumber e)))
@@ -218,7 +218,7 @@ module _ (k : Record) (e : ℕ) (b f l : List ℕ) where
   first = admissionBy (short k (length f) (length l)) (recordSound k) (leb (endpointsOf k) e)
 
   abbrev writeTests : Verdict
-  writeTests = testsBy first (write-call.ownTests (write-rows.unready k e) (write-rows.tooLong k e (length b)) (write-rows.notWritable k e (length b)))
+  writeTests = testsBy first (write-call.ownTests (write-cases.uncollected k e) (write-cases.tooLong k e (length b)) (write-cases.notWritable k e (length b)))
 
   abbrev writeOf : Verdict → WriteOutcome
   writeOf v = write-outcome k (writeBy v (k .regs .board) (k .«control_state») (k .irq) (txSize k) e b f (log (k .regs .words) l 0))
@@ -227,7 +227,7 @@ module _ (k : Record) (e : ℕ) (b f l : List ℕ) where
   write-is = writes.call-is k e b f l ∙ ap writeOf (tests-are k e (length b) (length f) (length l))
 
   abbrev readTests : Verdict
-  readTests = testsBy first (read-call.ownTests (read-rows.unready k e) (read-rows.notReadable k e) (read-rows.notSetup k e (length b)))
+  readTests = testsBy first (read-call.ownTests (read-cases.nothingWaits k e) (read-cases.notReadable k e) (read-cases.notSetup k e (length b)))
 
   read-is : readCall k e b f l ≡ reads.tested k e b f l readTests
   read-is = reads.by-tests k e b f l ∙ ap (reads.tested k e b f l) (read-told k e (length b) (length f) (length l))
@@ -237,35 +237,35 @@ module _ (k : Record) where
   abbrev Ended : Op → Type 0
   Ended o = Ends k o (outcome k o)
 
-  write-ends : (e : ℕ) (b f l : List ℕ) {m : ℕ} → write-rows.Given k e (length b) (length f) (length l) m → Ended (write e b f l)
+  write-ends : (e : ℕ) (b f l : List ℕ) {m : ℕ} → write-cases.WriteCase k e (length b) (length f) (length l) m → Ended (write e b f l)
   unfolding blockedAfter
   write-ends e b f l g = subst (λ (o : WriteOutcome). Ends k (write e b f l) (written o)) (sym (write-is k e b f l)) (go g)
     where
-      go : {x : ℕ} → write-rows.Given k e (length b) (length f) (length l) x → Ends k (write e b f l) (written (writeOf k e b f l (writeTests k e b f l)))
-      go (write-rows.done a s t u) =
-          done refl (ap (λ (o : WriteOutcome). wroteNumber (o .result .answer)) (sym (write-is k e b f l)) ∙ writes.exactly k e b f l 0 .1 (write-rows.done a s t u))
-      go (write-rows.blocks a s) =
+      go : {x : ℕ} → write-cases.WriteCase k e (length b) (length f) (length l) x → Ends k (write e b f l) (written (writeOf k e b f l (writeTests k e b f l)))
+      go (write-cases.done a s t u) =
+          done refl (ap (λ (o : WriteOutcome). writeNumber (o .result .answer)) (sym (write-is k e b f l)) ∙ writes.exactly k e b f l 0 .1 (write-cases.done a s t u))
+      go (write-cases.blocks a s) =
           rw (a .lent, a .passes, a .there, s) (blocked e (writing e b f l) refl (blocks k e l f [] (lent-enough k (length f) (length l) (a .lent) .1)))
-      go (write-rows.beyond p q r) = rw (p, q, r) (refused 8 refl refl refl)
-      go (write-rows.long a s t) = rw (a .lent, a .passes, a .there, s, t) (refused 9 refl refl refl)
-      go (write-rows.untaken a s t u) = rw (a .lent, a .passes, a .there, s, t, u) (refused 11 refl refl refl)
-      go (write-rows.little p) = rw p (refused 15 refl refl refl)
-      go (write-rows.unsound p q) = rw (p, q) (refused 16 refl refl refl)
+      go (write-cases.beyond p q r) = rw (p, q, r) (refused 8 refl refl refl)
+      go (write-cases.long a s t) = rw (a .lent, a .passes, a .there, s, t) (refused 9 refl refl refl)
+      go (write-cases.untaken a s t u) = rw (a .lent, a .passes, a .there, s, t, u) (refused 11 refl refl refl)
+      go (write-cases.little p) = rw p (refused 15 refl refl refl)
+      go (write-cases.unsound p q) = rw (p, q) (refused 16 refl refl refl)
 
-  read-ends : (e : ℕ) (b f l : List ℕ) {m : ℕ} → read-rows.Given k e (length b) (length f) (length l) m → Ended (read e b f l)
+  read-ends : (e : ℕ) (b f l : List ℕ) {m : ℕ} → read-cases.ReadCase k e (length b) (length f) (length l) m → Ended (read e b f l)
   unfolding blockedAfter
   read-ends e b f l g = subst (λ (o : ReadOutcome). Ends k (read e b f l) (fetched o)) (sym (read-is k e b f l)) (go g)
     where
-      go : {x : ℕ} → read-rows.Given k e (length b) (length f) (length l) x → Ends k (read e b f l) (fetched (reads.tested k e b f l (readTests k e b f l)))
-      go (read-rows.done a s t u) =
-          done refl (ap (λ (o : ReadOutcome). gotNumber (o .result .answer)) (sym (read-is k e b f l)) ∙ reads.exactly k e b f l 0 .1 (read-rows.done a s t u))
-      go (read-rows.blocks a s) =
+      go : {x : ℕ} → read-cases.ReadCase k e (length b) (length f) (length l) x → Ends k (read e b f l) (fetched (reads.tested k e b f l (readTests k e b f l)))
+      go (read-cases.done a s t u) =
+          done refl (ap (λ (o : ReadOutcome). readNumber (o .result .answer)) (sym (read-is k e b f l)) ∙ reads.exactly k e b f l 0 .1 (read-cases.done a s t u))
+      go (read-cases.blocks a s) =
           rw (a .lent, a .passes, a .there, s) (blocked e (reading e b f l) refl (blocks k e l [] b (lent-enough k (length f) (length l) (a .lent) .1)))
-      go (read-rows.beyond p q r) = rw (p, q, r) (refused 8 refl refl refl)
-      go (read-rows.unreadable a s t) = rw (a .lent, a .passes, a .there, s, t) (refused 12 refl refl refl)
-      go (read-rows.unset a s t u) = rw (a .lent, a .passes, a .there, s, t, u) (refused 13 refl refl refl)
-      go (read-rows.little p) = rw p (refused 15 refl refl refl)
-      go (read-rows.unsound p q) = rw (p, q) (refused 16 refl refl refl)
+      go (read-cases.beyond p q r) = rw (p, q, r) (refused 8 refl refl refl)
+      go (read-cases.unreadable a s t) = rw (a .lent, a .passes, a .there, s, t) (refused 12 refl refl refl)
+      go (read-cases.unset a s t u) = rw (a .lent, a .passes, a .there, s, t, u) (refused 13 refl refl refl)
+      go (read-cases.little p) = rw p (refused 15 refl refl refl)
+      go (read-cases.unsound p q) = rw (p, q) (refused 16 refl refl refl)
 
   poll-ends : (l : List ℕ) → Ended (poll l)
   unfolding pollCall pollAdmitted recordSound
@@ -297,7 +297,7 @@ module _ (k : Record) where
       let t = events.collection k e f in
       by-rows k (collection e f) (event-rows.collectionRows k e (length f)) refl refl (t .replies)
       (λ n i. record {
-        reply = host.takenNumber (host.collectionCall k e f .answer);
+        reply = host.collectNumber (host.collectionCall k e f .answer);
         values = no-taken (host.collectionCall k e f .answer) f n i;
         «record» = t .unchanged n i;
         stores = 0;

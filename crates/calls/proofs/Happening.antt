@@ -8,7 +8,7 @@ use mathlib.Core.List.{List}
 use native.Mathlib.Nat.{le-trans}
 use native.Mathlib.Decide.{ℕ-discrete}
 use borrow.Author.Tests.{eq-eqb, ne-eqb, ltb-false}
-use lib.Dec.{eqb, ltb, lit<}
+use lib.Dec.{eqb, leb, ltb, lit<}
 use lib.ListN.{length}
 use Rattle.board.specs.declared.Board.{Board}
 use Rattle.board.specs.declared.Direction.{Direction}
@@ -120,7 +120,7 @@ module _ (k : Record) where
   unfolding host.missCall recordSound endpointsOf
   missed e d =
       unless-refused (miss e d) (host.missRefusal k e)
-      (λ c. (le-trans (there k e (right (eqb e 0) (host.beyond k e) (none-refused false (recordSound k) _ c .2))) (at-most-six b), tt))
+      (λ c. (le-trans (there k e (right (eqb e 0) (leb (endpointsOf k) e) (none-refused false (recordSound k) _ c .2))) (at-most-six b), tt))
 
   pub underrun : (e : ℕ) → Happens (miss e In) k (host.underrunCall k e .«record»)
   unfolding host.underrunCall

@@ -113,10 +113,10 @@ module _ (k : Record) where
   Left reply q x = q ≡ cond (eqb reply 0) x r
 
   abbrev Happened : EventCalled → File → Type 0
-  Happened a x = Left (host.happenedNumber (a .answer)) (a .«record» .regs .words) x
+  Happened a x = Left (host.eventNumber (a .answer)) (a .«record» .regs .words) x
 
   abbrev Fetched : CollectCalled → File → Type 0
-  Fetched a x = Left (host.takenNumber (a .answer)) (a .«record» .regs .words) x
+  Fetched a x = Left (host.collectNumber (a .answer)) (a .«record» .regs .words) x
 
   not-done : (y : Refusal) (x : File) → Left (refusalNumber y) r x
   not-done y x = rw (ne-eqb (refusalNumber y) 0 (not-zero y))

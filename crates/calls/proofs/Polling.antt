@@ -29,10 +29,10 @@ use Rattle.record.specs.declared.Flags.{Flags}
 use Rattle.record.specs.declared.Record.{Record}
 use Rattle.record.specs.declared.Admission.{Admission}
 use Rattle.record.specs.declared.Admission.the-variants.{Clear, Refused}
-use Rattle.record.specs.Record.{recordSound, admissionBy, endpointsIn}
+use Rattle.record.specs.Record.{recordSound, admissionBy, endpointsIn, withEp0}
 use Rattle.record.proofs.Passing.{record-is-sound}
 use Rattle.record.proofs.Rows.{none-refused}
-use Rattle.round_rules.specs.Zero.{Round, round, withEp0, sentBy, setupTaken, restarted, cutShort, receivedBy, zeroBy, zeroServed, endpointZero, putBack, acceptedBy, acceptStep}
+use Rattle.round_rules.specs.Zero.{Round, round, sentBy, setupTaken, restarted, cutShort, receivedBy, zeroBy, zeroServed, endpointZero, putBack, acceptedBy, acceptStep}
 use Rattle.round_rules.specs.Walk.{Walk, walk, readyAt, drained, visit, walked}
 use Rattle.round_rules.specs.Poll.{PollOutcome, After, outcomeOf, ended, walkedOn, acceptedOn, roundOut, pollBy, pollLogged, pollServed, pollWhen, pollAdmitted, pollCall}
 use Rattle.laws.proofs.Tests.{clash}

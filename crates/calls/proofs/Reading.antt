@@ -20,8 +20,8 @@ use Rattle.transfer_rules.specs.declared.Verdict.{Verdict}
 use Rattle.transfer_rules.specs.Peek.{short, testsBy, After, after, leaving, blocked, ended}
 use Rattle.transfer_rules.specs.ReadZero.{wLength, setUp, rxSize, dataOut, zeroBy, readZero}
 use Rattle.transfer_rules.specs.ReadTests.{ownTests}
-use Rattle.transfer_rules.specs.Read.{ReadOutcome, readOther, got, taken, readCall}
-use Rattle.transfer_rules.specs.ReadReplies.{unready, notReadable, notSetup, Given, done as granted, blocks, beyond, unreadable, unset, little, unsound}
+use Rattle.transfer_rules.specs.Read.{ReadOutcome, readOther, got, readDone, readCall}
+use Rattle.transfer_rules.proofs.ReadCases.{nothingWaits, notReadable, notSetup, ReadCase, done as granted, blocks, beyond, unreadable, unset, little, unsound}
 use Rattle.transfer_rules.proofs.ReadVerdicts.{told}
 use Rattle.transfer_rules.proofs.ReadAnswers.{tested, by-tests, exactly}
 use Rattle.calls.proofs.Steps.{Reached, none, then, within, one, Gentle, Careful, careful-gentle}
@@ -85,14 +85,14 @@ module _ (k : Record) (ep : ℕ) (b f l : List ℕ) where
   abbrev pub tests : Verdict
   tests =
       testsBy (admissionBy (short k (length f) (length l)) (recordSound k) (leb (endpointsOf k) ep))
-      (ownTests (unready k ep) (notReadable k ep) (notSetup k ep (length b)))
+      (ownTests (nothingWaits k ep) (notReadable k ep) (notSetup k ep (length b)))
 
   abbrev Accounted : ReadOutcome → Type 0
   Accounted o = Account (Gentle (k .regs .board)) k l (o .result .«record») (o .list) (o .result .stores)
 
   -- by the row of the reply that is given
-  by-row : {m : ℕ} → Given k ep (length b) (length f) (length l) m → Accounted (tested k ep b f l tests)
-  unfolding taken blocked
+  by-row : {m : ℕ} → ReadCase k ep (length b) (length f) (length l) m → Accounted (tested k ep b f l tests)
+  unfolding readDone blocked
   by-row (granted a s t u) = rw (a .lent, a .passes, a .there, s, t, u) (gets k ep _ l (lent-passes k f l (a .passes) (a .lent)) (there k ep (a .there)) _ (rxSize k))
   by-row (blocks a s) =
       let p = lent-passes k f l (a .passes) (a .lent) in

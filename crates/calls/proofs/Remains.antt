@@ -28,9 +28,9 @@ use Rattle.call_rules.specs.Calls.{stored, unless, short, begun, idled, beyond,
 use Rattle.call_rules.specs.Reset.{resetStores, resetCall}
 use Rattle.call_rules.specs.Stall.{epStall, afterStall, setStalledCall}
 use Rattle.transfer_rules.specs.Peek.{leaving, blocked}
-use Rattle.transfer_rules.specs.ReadZero.{gotNumber, rxSize, readZero}
-use Rattle.transfer_rules.specs.Read.{ReadOutcome, readOther, got, taken, readCall}
-use Rattle.transfer_rules.specs.ReadReplies.{Given, done as granted, blocks, beyond as too-high, unreadable, unset, little, unsound}
+use Rattle.transfer_rules.specs.ReadZero.{readNumber, rxSize, readZero}
+use Rattle.transfer_rules.specs.Read.{ReadOutcome, readOther, got, readDone, readCall}
+use Rattle.transfer_rules.proofs.ReadCases.{ReadCase, done as granted, blocks, beyond as too-high, unreadable, unset, little, unsound}
 use Rattle.transfer_rules.proofs.ReadVerdicts.{told}
 use Rattle.transfer_rules.proofs.ReadAnswers.{tested, by-tests, exactly}
 use Rattle.call_rules.specs.Interrupt.{interrupted, interruptCall}
@@ -160,8 +160,8 @@ module _ (k : Record) where
               let q = apart (index i) (begun k l) tt (le-trans h (at-most-six (k .regs .board))) (start l (s .0) .1) in
               record { ready = told-by (λ e m. or-zero (eqb e i)) (read-leaves i (writeIndex i (begun k l)) q) .ready }
 
-      by-row : {m : ℕ} → Given k i (length b) (length f) (length l) m → Remain (λ e. eqb m 0 && eqb e i) k (tested k i b f l (tests k i b f l) .result .«record»)
-      unfolding taken blocked
+      by-row : {m : ℕ} → ReadCase k i (length b) (length f) (length l) m → Remain (λ e. eqb m 0 && eqb e i) k (tested k i b f l (tests k i b f l) .result .«record»)
+      unfolding readDone blocked
       by-row (granted a s t u) = rw (a .lent, a .passes, a .there, s, t, u) (gets-remain _ _ (rxSize k) (lent-passes k f l (a .passes) (a .lent)) (there k i (a .there)))
       by-row (blocks a s) =
           let p = lent-passes k f l (a .passes) (a .lent) in
@@ -175,5 +175,5 @@ module _ (k : Record) where
 
       pub read-remain : Remain (λ e. eqb (outcome k (read i b f l) .reply) 0 && eqb e i) k (step k (read i b f l))
       read-remain =
-          subst (λ (o : ReadOutcome). Remain (λ e. eqb (gotNumber (readCall k i b f l .result .answer)) 0 && eqb e i) k (o .result .«record»))
+          subst (λ (o : ReadOutcome). Remain (λ e. eqb (readNumber (readCall k i b f l .result .answer)) 0 && eqb e i) k (o .result .«record»))
           (sym (by-tests k i b f l ∙ ap (tested k i b f l) (told k i (length b) (length f) (length l)))) (by-row (exactly k i b f l _ .0 refl))

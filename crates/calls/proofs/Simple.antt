@@ -33,9 +33,9 @@ use Rattle.record.specs.declared.Admission.the-variants.{Clear, Refused}
 use Rattle.record.specs.Record.{recordSound, endpointsIn, endpointsOf, admissionBy}
 use Rattle.record.proofs.Rows.{none-refused}
 use Rattle.host_rules.proofs.Host.{never}
-use Rattle.call_rules.specs.Calls.{Outcome, stored, unless, short, begun, beyond, busInitCall, enableCall, idled, addressEntry, addressCall}
+use Rattle.call_rules.specs.Calls.{CallOutcome, stored, unless, short, begun, beyond, busInitCall, enableCall, idled, addressEntry, addressCall}
 use Rattle.call_rules.specs.Reset.{txEnabled, rxEnabled, usedEnabled, enabledBelow, resetStores, resetCall}
-use Rattle.call_rules.specs.Stall.{ToldOutcome, epStall, afterStall, setStalledCall, toldOf, unlessTold, isStalledCall}
+use Rattle.call_rules.specs.Stall.{StalledOutcome, epStall, afterStall, setStalledCall, stalledOf, unlessStalled, isStalledCall}
 use Rattle.call_rules.specs.Alloc.{unlessAllocated, allocEp, allocEpCall}
 use Rattle.calls.proofs.Steps.{Step, one, Reached, none, then, within, Sane, Careful}
 use Rattle.calls.proofs.Accounts.{Account, Passes, left, stores, at-most, txModify, rxModify, zeroModify, below}
@@ -51,10 +51,10 @@ passes : (k : Record) (l : List ℕ) (x : Bool) → admissionBy (short l) (recor
 passes k l x c = let t = none-refused (short l) (recordSound k) x c in (t .1, ltb-false _ _ (t .0))
 
 -- the account of all that a call leaves
-abbrev Called : (Step → Log → Type 0) → Record → List ℕ → Outcome → Type 0
+abbrev Called : (Step → Log → Type 0) → Record → List ℕ → CallOutcome → Type 0
 Called May k l o = Account May k l (o .call .«record») (o .list) (o .call .stores)
 
-abbrev Told : (Step → Log → Type 0) → Record → List ℕ → ToldOutcome → Type 0
+abbrev Told : (Step → Log → Type 0) → Record → List ℕ → StalledOutcome → Type 0
 Told May k l o = Account May k l (o .call .«record») (o .list) (o .call .stores)
 
 -- a call that is refused stores nothing
@@ -65,7 +65,7 @@ module _ {May : Step → Log → Type 0} (k : Record) (l : List ℕ) where
   unless-refused c g Clear s i f = stores l g (s refl) (within (f refl) 128 i) refl refl refl
 
   told-unless : (b : Bool) (g : Log) {m : ℕ} (t : Admission) → (t ≡ Clear → Passes k l) → m ≤ 128 → (t ≡ Clear → Reached May (begun k l) m g)
-      → Told May k l (unlessTold t k l (toldOf k b g))
+      → Told May k l (unlessStalled t k l (stalledOf k b g))
   told-unless b g (Refused x) s i f = left refl refl
   told-unless b g Clear s i f = stores l g (s refl) (within (f refl) 128 i) refl refl refl
 

@@ -35,8 +35,8 @@ use Rattle.transfer_rules.specs.Peek.{short, testsBy, After, after, leaving, bl
 use Rattle.transfer_rules.specs.WriteZero.{nodataPhase, accepted, txSize, dataIn, sentDataIn, sentZero}
 use Rattle.transfer_rules.specs.WriteTests as tests
 use Rattle.transfer_rules.specs.WriteTests.{untakenIn, ownTests}
-use Rattle.transfer_rules.specs.Write.{WriteOutcome, outcome, loaded, sentOther, sent, taken, writeBy, writeCall}
-use Rattle.transfer_rules.specs.WriteReplies.{unready, tooLong, notWritable, Given, done as granted, blocks, beyond, long, untaken, little, unsound}
+use Rattle.transfer_rules.specs.Write.{WriteOutcome, outcome, loaded, sentOther, sent, writeDone, writeBy, writeCall}
+use Rattle.transfer_rules.proofs.WriteCases.{uncollected, tooLong, notWritable, WriteCase, done as granted, blocks, beyond, long, untaken, little, unsound}
 use Rattle.transfer_rules.proofs.WriteVerdicts.{tests-are}
 use Rattle.transfer_rules.proofs.WriteAnswers.{call-is, exactly}
 use Rattle.laws.proofs.Tests.{clash}
@@ -156,13 +156,13 @@ module _ (k : Record) (ep : ℕ) (b f l : List ℕ) (six : Whole (k .regs .words
   abbrev tested : Verdict
   tested =
       testsBy (admissionBy (short k (length f) (length l)) (recordSound k) (leb (endpointsOf k) ep))
-      (ownTests (unready k ep) (tooLong k ep (length b)) (notWritable k ep (length b)))
+      (ownTests (uncollected k ep) (tooLong k ep (length b)) (notWritable k ep (length b)))
 
   abbrev Accounted : WriteOutcome → Type 0
   Accounted o = Account (Careful (k .regs .board)) k l (o .result .«record») (o .list) (o .result .stores)
 
-  by-row : {m : ℕ} → Given k ep (length b) (length f) (length l) m → Accounted (by tested)
-  unfolding taken blocked
+  by-row : {m : ℕ} → WriteCase k ep (length b) (length f) (length l) m → Accounted (by tested)
+  unfolding writeDone blocked
   by-row (granted a s t u) =
       rw (a .lent, a .passes, a .there, s, t, u) (sends k ep (length b) l (lent-passes k f l (a .passes) (a .lent)) (there k ep (a .there)) six (txSize k) (not-long t) u)
   by-row (blocks a s) =

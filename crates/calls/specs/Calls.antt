@@ -13,9 +13,9 @@ use Rattle.call_rules.specs.Alloc as impl-alloc
 use Rattle.call_rules.specs.Reset as impl-reset
 use Rattle.call_rules.specs.Stall as impl-stall
 use Rattle.transfer_rules.specs.Write.{WriteOutcome, writeCall}
-use Rattle.transfer_rules.specs.WriteZero.{wroteNumber, wroteValues}
+use Rattle.transfer_rules.specs.WriteZero.{writeNumber, writeValues}
 use Rattle.transfer_rules.specs.Read.{ReadOutcome, readCall}
-use Rattle.transfer_rules.specs.ReadZero.{gotNumber, gotValues}
+use Rattle.transfer_rules.specs.ReadZero.{readNumber, readValues}
 use Rattle.round_rules.specs.Poll.{PollOutcome, pollCall, pollNumber, pollValues}
 use Rattle.call_rules.specs.declared.InterruptCalled.{InterruptCalled}
 use Rattle.call_rules.specs.Interrupt.{interruptCall, interruptNumber}
@@ -54,7 +54,7 @@ pub record Outcome : Type 0 where
   pub list : List ℕ
   pub buf : List ℕ
 
-abbrev pub called : impl.Outcome → Outcome
+abbrev pub called : impl.CallOutcome → Outcome
 called o = record {
   reply = impl.replyNumber (o .call .answer);
   values = [];
@@ -65,10 +65,10 @@ called o = record {
   buf = [];
 }
 
-abbrev pub told : impl-stall.ToldOutcome → Outcome
+abbrev pub told : impl-stall.StalledOutcome → Outcome
 told t = record {
-  reply = impl-stall.toldNumber (t .call .answer);
-  values = impl-stall.toldValues (t .call .answer);
+  reply = impl-stall.stalledNumber (t .call .answer);
+  values = impl-stall.stalledValues (t .call .answer);
   «record» = t .call .«record»;
   stores = t .call .stores;
   fifo = [];
@@ -78,8 +78,8 @@ told t = record {
 
 abbrev pub allocated : AllocCalled → Outcome
 allocated o = record {
-  reply = impl-alloc.allocationNumber (o .answer);
-  values = impl-alloc.allocationValues (o .answer);
+  reply = impl-alloc.allocNumber (o .answer);
+  values = impl-alloc.allocValues (o .answer);
   «record» = o .«record»;
   stores = 0;
   fifo = [];
@@ -89,8 +89,8 @@ allocated o = record {
 
 abbrev pub written : WriteOutcome → Outcome
 written o = record {
-  reply = wroteNumber (o .result .answer);
-  values = wroteValues (o .result .answer);
+  reply = writeNumber (o .result .answer);
+  values = writeValues (o .result .answer);
   «record» = o .result .«record»;
   stores = o .result .stores;
   fifo = o .fifo;
@@ -101,8 +101,8 @@ written o = record {
 -- the stored bytes are those that the call left in the buffer
 abbrev pub fetched : ReadOutcome → Outcome
 fetched o = record {
-  reply = gotNumber (o .result .answer);
-  values = gotValues (o .result .answer) (o .buf);
+  reply = readNumber (o .result .answer);
+  values = readValues (o .result .answer) (o .buf);
   «record» = o .result .«record»;
   stores = o .result .stores;
   fifo = [];
@@ -125,11 +125,11 @@ abbrev pub interrupted : InterruptCalled → Outcome
 interrupted o = record { reply = interruptNumber (o .answer); values = []; «record» = o .«record»; stores = 0; fifo = []; list = []; buf = [] }
 
 abbrev pub happened : EventCalled → Outcome
-happened o = record { reply = host.happenedNumber (o .answer); values = []; «record» = o .«record»; stores = 0; fifo = []; list = []; buf = [] }
+happened o = record { reply = host.eventNumber (o .answer); values = []; «record» = o .«record»; stores = 0; fifo = []; list = []; buf = [] }
 
 abbrev pub arrived : host.Arrival → Outcome
 arrived o = record {
-  reply = host.happenedNumber (o .event .answer);
+  reply = host.eventNumber (o .event .answer);
   values = [];
   «record» = o .event .«record»;
   stores = 0;
@@ -141,8 +141,8 @@ arrived o = record {
 -- the bytes are those that stand in the lent FIFO buffer
 abbrev pub collected : List ℕ → CollectCalled → Outcome
 collected f o = record {
-  reply = host.takenNumber (o .answer);
-  values = host.takenValues (o .answer) f;
+  reply = host.collectNumber (o .answer);
+  values = host.collectValues (o .answer) f;
   «record» = o .«record»;
   stores = 0;
   fifo = [];

@@ -4,13 +4,13 @@ use mathlib.Core.Path.{refl}
 use Rattle.board.specs.declared.Board.the-variants.{Display}
 use Rattle.board.specs.Boards.{display, rows, rows-display}
 use Rattle.endpoints.specs.Endpoints.{granted}
-use Rattle.endpoints.specs.Check.{taken, checked, given}
+use Rattle.endpoints.specs.Check.{inUse, checked, given}
 use Rattle.endpoints.specs.Allocate.{checkAt, answerTo, allocate}
 use Rattle.cases.specs.Allocations.{Hold, allocations}
 
 -- apart from the statement, so that a wrong case prints which value differs
 computed : Hold (allocations display)
-unfolding taken checked checkAt answerTo granted given allocate
+unfolding inUse checked checkAt answerTo granted given allocate
 computed = refl
 
 pub p1-to-p10 : Hold (allocations (rows Display))

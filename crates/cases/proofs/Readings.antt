@@ -14,9 +14,9 @@ use Rattle.record.specs.Record.{freshRecord, areaIn, areaOf, needIn, needOf, fl
 use Rattle.cases.specs.Allocations.{Hold}
 use Rattle.transfer_rules.specs.ReadTests.{notReadable, notSetup, ownTestsAt, testsIn}
 use Rattle.transfer_rules.specs.ReadZero.{rxSize, dataOut, readZero}
-use Rattle.transfer_rules.specs.Read.{got, taken, readIn, readCall}
+use Rattle.transfer_rules.specs.Read.{got, readDone, readIn, readCall}
 use Rattle.cases.specs.Readings.{readings}
 
 pub p13 : Hold (readings Display)
-unfolding _also_ bit freshFile freshRegs index faddr sideIn sideOf sideAt sideWord withSideIn withSide sideSound wordsBelow sidesBelow regsSound shortIn rxPktRdy rxCount freshRecord areaIn areaOf needIn needOf table.sizesOf flagsSound whole.passes recordSound endpointsIn endpointsOf notReadable notSetup ownTestsAt testsIn ended rxSize dataOut readZero got taken readIn readCall
+unfolding _also_ bit freshFile freshRegs index faddr sideIn sideOf sideAt sideWord withSideIn withSide sideSound wordsBelow sidesBelow regsSound shortIn rxPktRdy rxCount freshRecord areaIn areaOf needIn needOf table.sizesOf flagsSound whole.passes recordSound endpointsIn endpointsOf notReadable notSetup ownTestsAt testsIn ended rxSize dataOut readZero got readDone readIn readCall
 p13 = rw rows-display

@@ -14,9 +14,9 @@ use Rattle.record.specs.Record.{freshRecord, areaIn, areaOf, needIn, needOf, fl
 use Rattle.cases.specs.Allocations.{Hold}
 use Rattle.transfer_rules.specs.WriteTests.{tooLong, notWritable, ownTestsAt, testsIn}
 use Rattle.transfer_rules.specs.WriteZero.{txSizeIn, txSize, dataIn, sentDataIn}
-use Rattle.transfer_rules.specs.Write.{sent, taken, writeIn, writeCall}
+use Rattle.transfer_rules.specs.Write.{sent, writeDone, writeIn, writeCall}
 use Rattle.cases.specs.Writes.{writes}
 
 pub p11-and-p12 : Hold (writes Display)
-unfolding _also_ bit freshFile freshRegs index faddr sideIn sideOf sideAt sideSound wordsBelow sidesBelow regsSound txPktRdy freshRecord areaIn areaOf needIn needOf table.sizesOf flagsSound whole.passes recordSound endpointsIn endpointsOf shortIn tooLong notWritable ownTestsAt testsIn txSizeIn txSize ended dataIn sentDataIn sent taken writeIn writeCall
+unfolding _also_ bit freshFile freshRegs index faddr sideIn sideOf sideAt sideSound wordsBelow sidesBelow regsSound txPktRdy freshRecord areaIn areaOf needIn needOf table.sizesOf flagsSound whole.passes recordSound endpointsIn endpointsOf shortIn tooLong notWritable ownTestsAt testsIn txSizeIn txSize ended dataIn sentDataIn sent writeDone writeIn writeCall
 p11-and-p12 = rw rows-display

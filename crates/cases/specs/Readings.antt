@@ -19,7 +19,7 @@ use Rattle.record.specs.Record.{freshRecord, withRegs, withControl, withEndpoin
 use Rattle.transfer_rules.specs.declared.ReadAnswer.{ReadAnswer}
 use Rattle.transfer_rules.specs.declared.ReadAnswer.the-variants.{Done, Refused}
 use Rattle.transfer_rules.specs.Read.{ReadOutcome, readCall}
-use Rattle.transfer_rules.specs.ReadZero.{gotNumber}
+use Rattle.transfer_rules.specs.ReadZero.{readNumber}
 
 -- a receive side where a packet of n bytes waits
 abbrev pub waits : ℕ → Side
@@ -37,7 +37,7 @@ counted (Done n) = n ∷ []
 counted (Refused x) = []
 
 abbrev pub shown : ReadOutcome → List ℕ
-shown o = gotNumber (o .result .answer) ∷ counted (o .result .answer) ++ (stateNumber (o .result .«record» .«control_state» .state) ∷ [])
+shown o = readNumber (o .result .answer) ∷ counted (o .result .answer) ++ (stateNumber (o .result .«record» .«control_state» .state) ∷ [])
 
 -- a read of it at endpoint 0, as much memory lent as is asked for: it is done, and leaves the state
 abbrev pub reading : Board → ℕ → ℕ → ControlStateEnum → Case

@@ -7,9 +7,8 @@ use Rattle.board.specs.declared.Board.the-variants.{Display}
 use Rattle.event_rules.specs.Events.{waitingAt, busReset, busResume}
 use Rattle.cases.specs.Allocations.{Case}
 use Rattle.record.specs.declared.Record.{Record}
-use Rattle.record.specs.Record.{freshRecord, withRegs, withIrq}
+use Rattle.record.specs.Record.{freshRecord, withRegs, withIrq, withRx}
 use Rattle.call_rules.specs.Interrupt.{interruptCall}
-use Rattle.round_rules.specs.Zero.{withRx}
 use Rattle.round_rules.specs.Poll.{PollOutcome, pollCall, pollNumber, pollValues}
 
 -- the reply and the values of a poll, as the report prints them

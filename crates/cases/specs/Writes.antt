@@ -14,7 +14,7 @@ use Rattle.control_state.specs.declared.ControlStateEnum.the-variants.{Idle, Da
 use Rattle.record.specs.declared.Record.{Record}
 use Rattle.record.specs.Record.{freshRecord, withControl, withEndpoints, needOf}
 use Rattle.transfer_rules.specs.Write.{WriteOutcome, writeCall}
-use Rattle.transfer_rules.specs.WriteZero.{wroteNumber, wroteValues}
+use Rattle.transfer_rules.specs.WriteZero.{writeNumber, writeValues}
 
 -- a fresh record, but for endpoint 0: in DataIn with m bytes remaining
 abbrev pub sending : Board → ℕ → Record
@@ -27,7 +27,7 @@ sized n k = withEndpoints k (set (k .endpoints) 0 (marked fresh Control In n))
 -- what a write gives, as the report prints it, and then the control state's number and the length that remains
 abbrev pub shown : WriteOutcome → List ℕ
 shown o =
-    wroteNumber (o .result .answer) ∷ wroteValues (o .result .answer)
+    writeNumber (o .result .answer) ∷ writeValues (o .result .answer)
     ++ (stateNumber (o .result .«record» .«control_state» .state) ∷ o .result .«record» .«control_state» .«tx_len» ∷ [])
 
 -- a write of n bytes at endpoint 0, as much memory lent as is asked for: it is done, and leaves the state and the remaining length

@@ -3,7 +3,7 @@ use Prim.Native.Nat.{ℕ, _+_, _^_, _<_}
 use mathlib.Core.Path.{_≡_, refl, sym, ap, subst, _∙_}
 use mathlib.Core.Logic.{_↔_}
 use mathlib.Core.Bool.{Bool, true, false, _||_, cond}
-use mathlib.Core.List.{List, [], _∷_}
+use mathlib.Core.List.{List}
 use native.Mathlib.Omega.{arith}
 use borrow.Author.Tests.{eq-eqb, ne-eqb}
 use lib.Dec.{eqb, lit<}
@@ -17,16 +17,16 @@ use Rattle.board.specs.declared.Direction.the-variants.{Out, In}
 use Rattle.csr.specs.declared.Side.{Side}
 use Rattle.csr.specs.declared.Csr0l.{Csr0l}
 use Rattle.csr.specs.declared.Txcsrl.{Txcsrl}
-use Rattle.csr.specs.declared.Csr0lSet.{Csr0lSet}
 use Rattle.csr.specs.declared.Csr0lSet.the-variants as csr0l-set
 use Rattle.csr.specs.declared.TxcsrlSet.the-variants as txcsrl-set
 use Rattle.csr.specs.Registers.{withIso, withMaxp}
 use Rattle.csr.specs.Control.{dropped, txStored, rxStored, txcsrlOf, txcsrlSet, csr0lSet, txcsrlNumber, csr0lNumber}
+use Rattle.csr.proofs.Sides.{out-in}
 use Rattle.csr.proofs.AsWritten.{drops, not-empty}
 use Rattle.csr.proofs.Modified.{tx-flushed}
 use Rattle.csr.proofs.Stored.{dropped-rest, tx-stall-number, rx-stall-number, tx-flush-number, both-serviced, both-number}
 use Rattle.register_file.specs.Registers as file
-use Rattle.register_file.specs.Registers.{File, Whole, sideAt, chosen, setupend, enabledOf}
+use Rattle.register_file.specs.Registers.{Whole, sideAt, chosen, setupend, enabledOf}
 use Rattle.register_file.specs.Control.{csr0lRead, txcsrlRead}
 use Rattle.register_file.proofs.Readings.{tx-ready, rx-ready, same-csr0l}
 use Rattle.register_file.proofs.Modified.{zero-kept}
@@ -35,9 +35,9 @@ use Rattle.endpoints.specs.declared.EndpointConfig.{EndpointConfig}
 use Rattle.endpoints.specs.declared.EndpointType.{EndpointType}
 use Rattle.endpoints.specs.declared.EndpointType.the-variants.{Control, Isochronous, Bulk, Interrupt}
 use Rattle.store_list.specs.Stores as Stores
-use Rattle.store_list.specs.Stores.{listed, INDEX, CSR0L, CSR0H, TXCSRL, RXCSRL, TXMAXP, RXMAXP, INTRTXE, INTRRXE}
+use Rattle.store_list.specs.Stores.{listed, INDEX, CSR0L, CSR0H, TXCSRL, RXCSRL, INTRTXE}
 use Rattle.store_rules.specs.Stores.{Log, writeIndex}
-use Rattle.store_rules.specs.Promise.{Store, csr0l, csr0h, txcsrl, rxcsrl, iso, maxp, intre, does}
+use Rattle.store_rules.specs.Promise.{csr0l, csr0h, txcsrl, rxcsrl, iso, maxp, intre, does}
 use Rattle.store_rules.proofs.Promises.{sides, rest, modify-intre, modify-csr0l, modify-txcsrl}
 use Rattle.store_rules.proofs.Others.{others}
 use Rattle.store_rules.proofs.Named.{named-enabled}
@@ -267,9 +267,6 @@ module _ (e : ℕ) (config : EndpointConfig) (g : Log) (six : Whole (g .regs)) w
   rx-enables n low = rw (ne-eqb e 0 n) (rw (modify-intre Out e (writeIndex e g)) (out-enables e (config .«rx_max_packet_size») g six low n (isochronous (config .«ep_type»)) _ refl))
 
 -- endpoint 0
-out-in : Out ≡ In → ⊥
-out-in p = let z : _≡_ {A = ℕ} 0 1 = cc in omega arith
-
 serviced-sends : csr0l-set.ServicedBoth ≡ csr0l-set.TxPktRdy → ⊥
 serviced-sends p = let z : _≡_ {A = ℕ} 0 1 = cc in omega arith
 

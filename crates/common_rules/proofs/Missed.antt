@@ -1,10 +1,11 @@
 -- Where no endpoint of 1 to 5 has missed anything, the overrun check is its index stores. Assumes nothing.
 use Prim.Native.Nat.{ℕ, zero, suc, _+_, _-_, _≤_}
 use mathlib.Core.Path.{_≡_, refl, sym, ap, _∙_}
-use mathlib.Core.Bool.{Bool, true, false, _||_}
+use mathlib.Core.Bool.{Bool, false, _||_}
 use mathlib.Core.List.{foldl}
 use native.Mathlib.Omega.{arith}
 use native.Mathlib.Decide.{ℕ-discrete}
+use Rattle.laws.proofs.Tests.{neither}
 use Rattle.laws.specs.Lists.{numbers}
 use Rattle.board.specs.declared.Direction.{Direction}
 use Rattle.board.specs.declared.Direction.the-variants.{Out, In}
@@ -15,10 +16,6 @@ use Rattle.store_rules.specs.Stores.{Log, writeIndex}
 use Rattle.store_rules.proofs.Promises.{index-selects}
 use Rattle.common_rules.specs.Overrun.{overRunCleared, repaired, repairedBelow, checkOverrun, missedAt, missedTo, selectedOnly, selectedBelow}
 use Rattle.common_rules.proofs.Overrun.{no-under-run, no-over-run}
-
-neither : (x y : Bool) → (x || y) ≡ false → (x ≡ false) × (y ≡ false)
-neither true y p = (p, cc)
-neither false y p = (refl, p)
 
 -- a turn of the loop that looks
 pub missed-none : (w : File) → missedTo 0 w ≡ false

@@ -184,12 +184,6 @@ pub drops : (s : Side) → (dropped true s .ready ≡ false) × (dropped true s 
 unfolding dropped
 drops s = (and-zero (s .ready), refl)
 
-pub drop-rest : (b : Bool) (s : Side)
-    → (dropped b s .missed ≡ s .missed) × (dropped b s .stall ≡ s .stall) × (dropped b s .stalled ≡ s .stalled)
-    × (dropped b s .iso ≡ s .iso) × (dropped b s .maxp ≡ s .maxp)
-unfolding dropped
-drop-rest b s = (refl, refl, refl, refl, refl)
-
 -- "FIFONotEmpty reads as TxPktRdy. FIFOFull and DataError read 0." "DataEnd, Serviced, Flush and ClrDataTog read 0."
 pub not-empty : (s : Side) → txcsrlOf s .«fifo_not_empty» ≡ txcsrlOf s .«tx_pkt_rdy»
 unfolding txcsrlOf

@@ -11,7 +11,7 @@ ghost use mathlib.Core.Path.{_≡_};
 ghost use Rattle.board.specs.Table.{rowAt};
 ghost use Rattle.board.specs.Boards.{rows};
 ghost use Rattle.endpoints.specs.Endpoints.{typeNumber, sameType, fresh, usedIn, ask, granted};
-ghost use Rattle.endpoints.specs.Check.{taken, checked, passes};
+ghost use Rattle.endpoints.specs.Check.{inUse, checked, passes};
 ghost use Rattle.endpoints.specs.Numbers.{errorNumber, usbError};
 
 // An endpoint before any call.
@@ -58,8 +58,8 @@ fn used_dir(ep: EndpointData, direction: Direction) -> bool
 
 // The last two tests of the source's `check_endpoint`, which give one reply: bulk on a used endpoint; used, with another type or that same
 // direction.
-fn is_taken(ep: EndpointData, alloc_ep_type: EndpointType, direction: Direction) -> bool
-    ensures { λ r. ⌜ r ≡ taken ep «alloc_ep_type» direction ⌝ }
+fn is_in_use(ep: EndpointData, alloc_ep_type: EndpointType, direction: Direction) -> bool
+    ensures { λ r. ⌜ r ≡ inUse ep «alloc_ep_type» direction ⌝ }
 {
     let conf = ep.ep_conf;
     let had = conf.ep_type;
@@ -87,7 +87,7 @@ pub fn check_endpoint(
     if !board::row_has(row, direction) {
         return Checked::Fails(EndpointAllocError::EpDirNotSupported);
     }
-    if is_taken(ep, alloc_ep_type, direction) {
+    if is_in_use(ep, alloc_ep_type, direction) {
         return Checked::Fails(EndpointAllocError::EpUsed);
     }
     Checked::Passes

@@ -4,12 +4,13 @@ use mathlib.Core.Path.{_≡_, refl, sym, subst, ap, _∙_}
 use mathlib.Core.Logic.{_↔_}
 use mathlib.Core.Bool.{Bool, true, false, cond}
 use mathlib.Core.List.{List}
-use Prim.Native.Nat.{ℕ, zero, suc, _-_, _≤_, _<_}
+use Prim.Native.Nat.{ℕ, zero, suc, _-_, _<_}
 use native.Mathlib.Omega.{arith}
 use native.Mathlib.Decide.{ℕ-discrete}
 use lib.Dec.{eqb}
 use lib.ListN.{length, getD}
 use borrow.Author.Tests.{leb-false, lt-leb}
+use Rattle.laws.proofs.Tests.{clash}
 use Rattle.board.specs.declared.Row.{Row}
 use Rattle.board.specs.declared.Board.{Board}
 use Rattle.board.specs.Table.{rowAt}
@@ -23,10 +24,10 @@ use Rattle.endpoints.specs.declared.Answer.{Answer}
 use Rattle.endpoints.specs.declared.Answer.the-variants.{Done, Refused}
 use Rattle.endpoints.specs.Endpoints.{Ask, blank}
 use Rattle.endpoints.specs.Allocate.{beyond, checkAt, passesAt, firstFrom, numbered, answerTo, allocate}
-use Rattle.endpoints.specs.Check.{overSize, lacks, taken, pick, checked}
+use Rattle.endpoints.specs.Check.{overSize, lacks, inUse, pick, checked}
 use Rattle.endpoints.specs.Numbers.{errorNumber, answerNumber}
 use Rattle.endpoints.specs.Replies.{Given, None, Lowest, Gives}
-use Rattle.endpoints.proofs.CheckAnswers.{clash, tested, number-tells}
+use Rattle.endpoints.proofs.CheckAnswers.{tested, number-tells}
 
 -- what a search can come to
 data Search (f : ℕ → Bool) (i e : ℕ) : Answer → Type 0 where
@@ -34,7 +35,7 @@ data Search (f : ℕ → Bool) (i e : ℕ) : Answer → Type 0 where
   none : None f i e → Search f i e (Refused EndpointOverflow)
 
 none-found : {f : ℕ → Bool} {i e : ℕ} {a : Answer} → Search f i e a → None f i e → a ≡ Refused EndpointOverflow
-none-found (found n l) all = absurd (clash (sym (all n (l .from) (l .below)) ∙ l .passing))
+none-found (found n l) all = clash (sym (l .passing) ∙ all n (l .from) (l .below))
 none-found (none _) all = refl
 
 module _ (f : ℕ → Bool) (i : ℕ) where
@@ -70,7 +71,7 @@ module _ (t : List Row) (es : List EndpointData) (q : Ask) where
   searched (none all) = refused EndpointOverflow (refl, all)
 
   asked : (n : ℕ) (p z a b c : Bool) → beyond t n ≡ p → eqb n 0 ≡ z → overSize (rowAt t n) q ≡ a → lacks (rowAt t n) q ≡ b
-      → taken (getD es n blank) (q .kind) (q .way) ≡ c → Outcome (Number n) (numbered p z n (pick a b c))
+      → inUse (getD es n blank) (q .kind) (q .way) ≡ c → Outcome (Number n) (numbered p z n (pick a b c))
   asked n true z a b c ep ez ea eb ec = refused InvalidEndpoint ep
   asked n false true a b c ep ez ea eb ec = done n (refl, leb-false _ _ ep)
   asked n false false true b c ep ez ea eb ec = refused MaxPacketSizeBiggerThanEpFifoSize (ep, rw (ez, ep, ea))
@@ -90,10 +91,10 @@ module _ (t : List Row) (es : List EndpointData) (q : Ask) where
   from-row : (w : Wanted) (x : EndpointAllocError) → Given t es q x w → answerTo t es q w ≡ Refused x
   unfolding answerTo checkAt checked
   from-row Any EndpointOverflow g = none-found (search-from (length t - 1) 1 (length t) refl) (g .1)
-  from-row Any InvalidEndpoint g = absurd (clash g)
-  from-row Any MaxPacketSizeBiggerThanEpFifoSize g = absurd (clash (g .1))
-  from-row Any EpDirNotSupported g = absurd (clash (g .2))
-  from-row Any EpUsed g = absurd (clash (g .3))
+  from-row Any InvalidEndpoint g = clash (sym g)
+  from-row Any MaxPacketSizeBiggerThanEpFifoSize g = clash (sym (g .1))
+  from-row Any EpDirNotSupported g = clash (sym (g .2))
+  from-row Any EpUsed g = clash (sym (g .3))
   from-row (Number n) EndpointOverflow g = let z : _≡_ {A = ℕ} 0 1 = cc in absurd (omega arith)
   from-row (Number n) InvalidEndpoint g = rw g
   from-row (Number n) MaxPacketSizeBiggerThanEpFifoSize g =
@@ -103,7 +104,7 @@ module _ (t : List Row) (es : List EndpointData) (q : Ask) where
       let h = tested (eqb n 0) (beyond t n) (lacks (rowAt t n) q) (g .2) in
       rw (g .0, h .0, rw (g .0, h .0) at (g .1), h .1)
   from-row (Number n) EpUsed g =
-      let h = tested (eqb n 0) (beyond t n) (taken (getD es n blank) (q .kind) (q .way)) (g .3) in
+      let h = tested (eqb n 0) (beyond t n) (inUse (getD es n blank) (q .kind) (q .way)) (g .3) in
       rw (g .0, h .0, rw (g .0, h .0) at (g .1), rw (g .0, h .0) at (g .2), h .1)
 
   to-gives : (w : Wanted) (n : ℕ) {a : Answer} → Outcome w a → a ≡ Done n → Gives t es q w n

@@ -12,7 +12,7 @@ use Rattle.endpoints.specs.declared.EndpointData.{EndpointData}
 use Rattle.endpoints.specs.declared.EndpointAllocError.the-variants.{EpDirNotSupported, EpUsed, MaxPacketSizeBiggerThanEpFifoSize}
 use Rattle.endpoints.specs.declared.Checked.the-variants.{Passes, Fails}
 use Rattle.endpoints.specs.Endpoints.{ask}
-use Rattle.endpoints.specs.Check.{taken, checked}
+use Rattle.endpoints.specs.Check.{inUse, checked}
 
 -- `check_endpoint`: s is the row that the board gave, h and u what the tests of direction and use said
 module _ {r s : Row} (e : EndpointData) (k : EndpointType) (d : Direction) (n : ℕ) (at : s ≡ r) where
@@ -25,10 +25,10 @@ module _ {r s : Row} (e : EndpointData) (k : EndpointType) (d : Direction) (n : 
     unfolding checked
     lacking p = rw (← at, le-ltb (s .size) n fits, ← has, p)
 
-    pub in-use : not h ≡ false → {u : Bool} → u ≡ taken e k d → u ≡ true → Fails EpUsed ≡ checked r e (ask k d n)
+    pub in-use : not h ≡ false → {u : Bool} → u ≡ inUse e k d → u ≡ true → Fails EpUsed ≡ checked r e (ask k d n)
     unfolding checked
     in-use p is busy = rw (← at, le-ltb (s .size) n fits, ← has, p, sym is ∙ busy)
 
-    pub passing : not h ≡ false → {u : Bool} → u ≡ taken e k d → u ≡ false → Passes ≡ checked r e (ask k d n)
+    pub passing : not h ≡ false → {u : Bool} → u ≡ inUse e k d → u ≡ false → Passes ≡ checked r e (ask k d n)
     unfolding checked
     passing p is free = rw (← at, le-ltb (s .size) n fits, ← has, p, sym is ∙ free)

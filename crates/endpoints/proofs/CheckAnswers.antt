@@ -6,19 +6,17 @@ use mathlib.Core.List.{List, [], _∷_}
 use Prim.Native.Nat.{ℕ, _<_}
 use native.Mathlib.Omega.{arith}
 use lib.ListN.{getD}
+use Rattle.laws.proofs.Tests.{clash}
 use Rattle.endpoints.specs.declared.EndpointAllocError.{EndpointAllocError}
 use Rattle.endpoints.specs.declared.EndpointAllocError.the-variants.{EndpointOverflow, InvalidEndpoint, EpDirNotSupported, EpUsed, MaxPacketSizeBiggerThanEpFifoSize}
 use Rattle.endpoints.specs.declared.Answer.{Answer}
 use Rattle.endpoints.specs.declared.Answer.the-variants.{Done, Refused}
 use Rattle.endpoints.specs.Numbers.{errorNumber, answerNumber}
 
-pub clash : false ≡ true → ⊥
-clash h = let z : _≡_ {A = ℕ} 0 1 = cc in omega arith
-
 -- the wanted number is not 0, and what is tested of it holds
 pub tested : (z p a : Bool) → (not z && (not p && a)) ≡ true → (z ≡ false) × (a ≡ true)
-tested true p a h = (sym h, absurd (clash h))
-tested false true a h = (refl, absurd (clash h))
+tested true p a h = (sym h, clash (sym h))
+tested false true a h = (refl, clash (sym h))
 tested false false a h = (refl, h)
 
 -- an answer with the number of an error is that refusal

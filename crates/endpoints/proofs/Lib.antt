@@ -1,7 +1,7 @@
 pub mod CheckAnswers
 pub mod Marked
 pub mod Check
-pub mod Taken
+pub mod InUse
 pub mod Answers
 pub mod Changes
 pub mod Allocate

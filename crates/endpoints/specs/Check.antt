@@ -25,8 +25,8 @@ abbrev pub lacks : Row → Ask → Bool
 lacks r q = not (hasRow r (q .way))
 
 -- reply 4: "bulk with either direction used; or used, with another type or that same direction"
-unfoldable pub taken : EndpointData → EndpointType → Direction → Bool
-taken e k d = (sameType k Bulk && used e) || (used e && (not (sameType (kindOf e) k) || usedIn e d))
+unfoldable pub inUse : EndpointData → EndpointType → Direction → Bool
+inUse e k d = (sameType k Bulk && used e) || (used e && (not (sameType (kindOf e) k) || usedIn e d))
 
 -- document 01: "allocation 2, 5, 3, 4". The first of the tests 5, 3, 4 that holds; 2 stands before them in `numbered`.
 abbrev pub pick : Bool → Bool → Bool → Checked
@@ -37,7 +37,7 @@ pick false false false = Passes
 
 -- `check_endpoint`
 unfoldable pub checked : Row → EndpointData → Ask → Checked
-checked r e q = pick (overSize r q) (lacks r q) (taken e (q .kind) (q .way))
+checked r e q = pick (overSize r q) (lacks r q) (inUse e (q .kind) (q .way))
 
 abbrev pub passes : Checked → Bool
 passes Passes = true

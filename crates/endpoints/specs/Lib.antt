@@ -1,6 +1,6 @@
 pub mod Check
 pub mod Endpoints
 pub mod Numbers
-pub mod Taken
+pub mod InUse
 pub mod Allocate
 pub mod Replies

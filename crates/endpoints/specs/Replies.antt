@@ -15,7 +15,7 @@ use Rattle.endpoints.specs.declared.Wanted.{Wanted}
 use Rattle.endpoints.specs.declared.Wanted.the-variants.{Any, Number}
 use Rattle.endpoints.specs.Endpoints.{Ask, blank}
 use Rattle.endpoints.specs.Allocate.{beyond, passesAt}
-use Rattle.endpoints.specs.Check.{overSize, lacks, taken}
+use Rattle.endpoints.specs.Check.{overSize, lacks, inUse}
 
 -- "wanted 1 to 5", and the test f holds of that number
 abbrev pub wantedAnd : List Row → (ℕ → Bool) → Wanted → Bool
@@ -49,7 +49,7 @@ module _ (t : List Row) (es : List EndpointData) (q : Ask) where
 
   -- "wanted 1 to 5: bulk with either direction used; or used, with another type or that same direction"
   abbrev pub row4 : Wanted → Bool
-  row4 = wantedAnd t (λ n. taken (getD es n blank) (q .kind) (q .way))
+  row4 = wantedAnd t (λ n. inUse (getD es n blank) (q .kind) (q .way))
 
   -- "wanted 1 to 5: size over the table's"
   abbrev pub row5 : Wanted → Bool

@@ -1,17 +1,17 @@
 -- What an arrival, a collection, an underrun and an overrun do to their side, as document 01 has it. Assumes nothing.
 use Prim.Native.Nat.{ℕ, _<_}
-use mathlib.Core.Path.{_≡_, refl}
+use mathlib.Core.Path.{refl}
 use mathlib.Core.Bool.{true}
 use borrow.Author.Tests.{eq-eqb}
 use native.Mathlib.Omega.{arith}
 use Rattle.board.specs.declared.Direction.{Direction}
 use Rattle.board.specs.declared.Direction.the-variants.{Out, In}
-use Rattle.csr.specs.declared.Side.{Side}
-use Rattle.csr.proofs.AsWritten.{drops, drop-rest}
+use Rattle.csr.proofs.AsWritten.{drops}
+use Rattle.csr.proofs.Stored.{dropped-rest}
 use Rattle.register_file.specs.Registers.{File, Whole, sideAt}
-use Rattle.event_rules.specs.Events.{arrived, collected, missing, received, unstalled, lapsed}
+use Rattle.event_rules.specs.Events.{arrived, collected, missing}
 use Rattle.event_rules.specs.Promise.{arrival, collection, miss}
-use Rattle.event_rules.specs.AsWritten.{SameRest, Arrives, Unstalls, Collects, Misses}
+use Rattle.event_rules.specs.AsWritten.{Arrives, Unstalls, Collects, Misses}
 use Rattle.event_rules.proofs.Promises.{sides}
 
 pub arrives : (r : File) (e n : ℕ) → Whole r → e < 6 → Arrives n (sideAt r e Out) (sideAt (arrived r e n) e Out)
@@ -27,13 +27,13 @@ unstalls r n six =
 pub collects : (r : File) (e : ℕ) → Whole r → e < 6 → Collects (sideAt r e In) (sideAt (collected r e) e In)
 collects r e six h =
     rw (sides (collection e) r e In six h, eq-eqb e e refl)
-    (let k = drop-rest true (sideAt r e In) in
+    (let k = dropped-rest true (sideAt r e In) in
     record {
       ready = drops _ .0;
       len = drops _ .1;
-      missed = k .0;
-      stall = k .1;
-      rest = record { stalled = k .2; iso = k .3; maxp = k .4 };
+      missed = k .missed;
+      stall = k .stall;
+      rest = record { stalled = k .stalled; iso = k .iso; maxp = k .maxp };
     })
 
 pub misses : (r : File) (e : ℕ) (d : Direction) → Whole r → e < 6 → Misses (sideAt r e d) (sideAt (missing r e d) e d)

@@ -26,7 +26,7 @@ use Rattle.transfer_rules.specs.Peek.{After, blocked, ended}
 use Rattle.call_rules.specs.Alloc.{allocEp, unlessAllocated, allocEpCall}
 use Rattle.call_rules.specs.Calls.{unless, stored, begun, short, beyond, busInitCall, enableCall, idled, addressEntry, addressCall}
 use Rattle.call_rules.specs.Reset.{resetStores, resetCall}
-use Rattle.call_rules.specs.Stall.{afterStall, epStall, setStalledCall, unlessTold, toldOf, isStalledCall}
+use Rattle.call_rules.specs.Stall.{afterStall, epStall, setStalledCall, unlessStalled, stalledOf, isStalledCall}
 use Rattle.transfer_rules.specs.WriteTests as write
 use Rattle.transfer_rules.specs.WriteZero as zero-write
 use Rattle.transfer_rules.specs.Write as write-write
@@ -43,7 +43,7 @@ module _ (k : Record) where
   called (Refused x) l c g = refl
   called Clear l c g = refl
 
-  told : (x : Admission) (l : List ℕ) (b : Bool) (g : Log) → unlessTold x k l (toldOf k b g) .call .«record» .irq ≡ k .irq
+  told : (x : Admission) (l : List ℕ) (b : Bool) (g : Log) → unlessStalled x k l (stalledOf k b g) .call .«record» .irq ≡ k .irq
   told (Refused x) l b g = refl
   told Clear l b g = refl
 
@@ -109,7 +109,7 @@ module _ (k : Record) where
 
   module _ (e : ℕ) (b f l : List ℕ) where
     read-by : (v : Verdict) → tested k e b f l v .result .«record» .irq ≡ k .irq
-    unfolding read-read.taken blocked
+    unfolding read-read.readDone blocked
     read-by verdict.Clear = read-taken e _ _ (zero-read.rxSize k) (k .«control_state») (writeIndex e (log (k .regs .words) l 0))
     read-by verdict.Blocked = refl
     read-by (verdict.Refused x) = refl
@@ -146,7 +146,7 @@ module _ (k : Record) where
       ran-by v = write-write.outcome k (write-write.writeBy v (k .regs .board) (k .«control_state») (k .irq) (zero-write.txSize k) e b f (log (k .regs .words) l 0))
 
       write-by : (v : Verdict) → Alike (k .irq) (ran-by v .result .«record» .irq)
-      unfolding write-write.taken blocked
+      unfolding write-write.writeDone blocked
       write-by verdict.Clear =
           write-taken e (length b) (zero-write.txSize k) (k .«control_state») (write-write.loaded e (length b) (log (k .regs .words) l 0))
       write-by verdict.Blocked = same (k .irq) small

@@ -10,7 +10,8 @@ use Rattle.record.specs.declared.Record.{Record}
 use Rattle.record.specs.Record.{recordSound, endpointsOf, needIn, needOf}
 use Rattle.transfer_rules.specs.Peek.{shortIn, short, rxPktRdy}
 use Rattle.transfer_rules.specs.ReadTests as tests
-use Rattle.transfer_rules.specs.ReadReplies.{Admitted, unready, notReadable, notSetup, done}
+use Rattle.transfer_rules.proofs.Lent.{Admitted}
+use Rattle.transfer_rules.proofs.ReadCases.{nothingWaits, notReadable, notSetup, done}
 use Rattle.transfer_rules.proofs.ReadAnswers.{exactly}
 use Rattle.calls.specs.Calls.{read}
 use Rattle.history.specs.Driver.{waiting, takes}
@@ -20,7 +21,7 @@ module _ (k : Record) (e : ℕ) (b f l : List ℕ) (high : e ≡ 0 → ⊥) wher
   unfolding short shortIn needIn needOf
   enough p q = rw (le-ltb (length f) (needOf k) p, le-ltb (length l) 384 q)
 
-  there-is : T (waiting k e) → unready k e ≡ false
+  there-is : T (waiting k e) → nothingWaits k e ≡ false
   unfolding rxPktRdy
   there-is w = go (waiting k e) w
     where

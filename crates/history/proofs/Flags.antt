@@ -15,7 +15,8 @@ use Rattle.control_state.specs.declared.ControlState.{ControlState}
 use Rattle.control_state.specs.declared.ControlStateEnum.{ControlStateEnum}
 use Rattle.control_state.specs.declared.ControlStateEnum.the-variants.{Idle, Setup, DataIn, DataOut, Accepted, NodataPhase}
 use Rattle.record.specs.declared.Flags.{Flags}
-use Rattle.round_rules.specs.Zero.{Round, withEp0, withTx, withRx, sentBy, setupTaken, restarted, cutShort, receivedBy, zeroBy, zeroServed, endpointZero, putBack, acceptedBy, acceptStep}
+use Rattle.record.specs.Record.{withEp0, withTx, withRx}
+use Rattle.round_rules.specs.Zero.{Round, sentBy, setupTaken, restarted, cutShort, receivedBy, zeroBy, zeroServed, endpointZero, putBack, acceptedBy, acceptStep}
 
 pub record Alike (f g : Flags) : Type 0 where
   pub rx : (j : ℕ) → 1 ≤ j → j < 6 → bit (g .«ep_rx») j ≡ bit (f .«ep_rx») j

@@ -21,9 +21,9 @@ use Rattle.record.specs.declared.Record.{Record}
 use Rattle.record.specs.declared.Refusal.the-variants.{TooLittleLent}
 use Rattle.record.specs.declared.Admission.{Admission}
 use Rattle.record.specs.declared.Admission.the-variants as admission
-use Rattle.record.specs.Record.{admissionBy, recordSound, endpointsIn, endpointsOf}
+use Rattle.record.specs.Record.{admissionBy, recordSound, endpointsIn, endpointsOf, withTx, withRx}
 use Rattle.record.proofs.Passing.{sound-record-passes}
-use Rattle.round_rules.specs.Zero.{withTx, withRx, endpointZero, acceptStep}
+use Rattle.round_rules.specs.Zero.{endpointZero, acceptStep}
 use Rattle.round_rules.specs.Walk.{walked}
 use Rattle.round_rules.specs.Round.{masks, told}
 use Rattle.round_rules.specs.declared.PollResult.the-variants.{None, Data}

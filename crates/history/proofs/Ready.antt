@@ -32,9 +32,10 @@ use Rattle.control_state.specs.declared.ControlState.{ControlState}
 use Rattle.control_state.specs.declared.ControlStateEnum.{ControlStateEnum}
 use Rattle.control_state.specs.declared.ControlStateEnum.the-variants.{Idle, Setup, DataIn, DataOut, Accepted, NodataPhase}
 use Rattle.record.specs.declared.Flags.{Flags}
+use Rattle.record.specs.Record.{withEp0}
 use Rattle.transfer_rules.specs.Peek.{rxPktRdy}
 use Rattle.transfer_rules.proofs.Readings.{rx-ready}
-use Rattle.round_rules.specs.Zero.{Round, round, withEp0, setupTaken, restarted, cutShort, receivedBy, zeroBy, zeroServed, endpointZero}
+use Rattle.round_rules.specs.Zero.{Round, round, setupTaken, restarted, cutShort, receivedBy, zeroBy, zeroServed, endpointZero}
 use Rattle.round_rules.specs.Walk.{readyAt, walked}
 use Rattle.round_rules.proofs.Drained.{leftBy, walked-left}
 

@@ -22,7 +22,7 @@ ghost use Rattle.laws.specs.Lists.{pasted};
 ghost use Rattle.board.specs.declared.Direction.the-variants.{Out};
 ghost use Rattle.event_rules.specs.Events.{arrived, collected, missing};
 ghost use Rattle.record.specs.Record.{admissionBy, passes, recordSound, areaIn};
-ghost use Rattle.host_rules.specs.Host.{answerBy, leftBy, unless, signalled, missRefusalIn, entryIn, InBuffer, arrivalRefusalIn, arrivalCall, collectionRefusalIn, packetIn, takenBy, collectionCall, busResetCall, suspendCall, resumeCall, setupEndCall, missCall, underrunCall, overrunCall, happenedNumber};
+ghost use Rattle.host_rules.specs.Host.{answerBy, leftBy, unless, signalled, missRefusalIn, entryIn, InBuffer, arrivalRefusalIn, arrivalCall, collectionRefusalIn, packetIn, collectBy, collectionCall, busResetCall, suspendCall, resumeCall, setupEndCall, missCall, underrunCall, overrunCall, eventNumber};
 
 fn happen(w: &mut [u16; 46], o: Signal)
     ensures { λ _. ⌜ now (w .exit) ≡ signalled o (now (w .entry)) ⌝ }
@@ -261,7 +261,7 @@ fn collect(b: Board, w: &mut [u16; 46], ep: u8) -> CollectAnswer
 }
 
 fn collect_if(b: Board, w: &mut [u16; 46], f: Flags, ep: u8, memory: usize) -> CollectAnswer
-    ensures { λ a. ⌜ (a ≡ takenBy (collectionRefusalIn b (now (w .entry)) f ep memory) (packetIn b (now (w .entry)) ep)) × (now (w .exit) ≡ leftBy (collectionRefusalIn b (now (w .entry)) f ep memory) (now (w .entry)) (collected (now (w .entry)) ep)) ⌝ }
+    ensures { λ a. ⌜ (a ≡ collectBy (collectionRefusalIn b (now (w .entry)) f ep memory) (packetIn b (now (w .entry)) ep)) × (now (w .exit) ≡ leftBy (collectionRefusalIn b (now (w .entry)) f ep memory) (now (w .entry)) (collected (now (w .entry)) ep)) ⌝ }
 {
     let t = collection_refusal(b, w, f, ep, memory);
     match t {
@@ -294,7 +294,7 @@ pub fn collection(k: Record, ep: u8, fifo: &[u8]) -> CollectCalled
 
 // Document 01's number of an answer.
 pub fn happened_number(a: EventAnswer) -> u8
-    ensures { λ n. ⌜ n ≡ happenedNumber a ⌝ }
+    ensures { λ n. ⌜ n ≡ eventNumber a ⌝ }
 {
     match a {
         EventAnswer::Done => 0,

@@ -1,6 +1,6 @@
 -- An answered arrival puts its bytes into the first bytes of the endpoint's own receive area, and changes no other byte of FIFO memory.
 -- Assumes nothing.
-use Prim.Native.Nat.{ℕ, _+_, _≤_}
+use Prim.Native.Nat.{ℕ}
 use mathlib.Core.Path.{_≡_, refl}
 use mathlib.Core.Bool.{Bool, true, false}
 use mathlib.Core.List.{List}
@@ -19,7 +19,7 @@ use Rattle.record.specs.Bytes.{Fills}
 use Rattle.record.proofs.Areas.{area-within}
 use Rattle.record.proofs.Bytes.{pasted-fills}
 use Rattle.record.proofs.Numbers.{not-zero}
-use Rattle.host_rules.specs.Host.{entryAt, arrivalBy, arrivalRefusalIn, arrivalRefusal, Arrival, unlessArrived, arrivalCall, happenedNumber}
+use Rattle.host_rules.specs.Host.{entryAt, arrivalBy, arrivalRefusalIn, arrivalRefusal, Arrival, unlessArrived, arrivalCall, eventNumber}
 use Rattle.host_rules.proofs.Host.{never, admitted}
 
 cleared : (t : Admission) (long waits : Bool) → arrivalBy t long waits ≡ Clear → (t ≡ Clear) × (long ≡ false)
@@ -34,11 +34,11 @@ module _ (k : Record) (e : ℕ) (b f : List ℕ) where
       let (p, short) = cleared (entryAt k e (length f)) (ltb (areaIn (k .regs .board) e Out .size) (length b)) (sideAt (k .regs .words) e Out .ready) c in
       pasted-fills (areaOf k e Out) b f (ltb-false _ _ short) (omega (arith, area-within k e Out, admitted k e (length f) p .enough))
 
-  pub fills : happenedNumber (arrivalCall k e b f .event .answer) ≡ 0 → Fills (areaOf k e Out) b f (arrivalCall k e b f .fifo)
+  pub fills : eventNumber (arrivalCall k e b f .event .answer) ≡ 0 → Fills (areaOf k e Out) b f (arrivalCall k e b f .fifo)
   unfolding arrivalCall
   fills z = go (arrivalRefusal k e (length b) (length f)) _ fills-clear z
     where
-      go : (t : Admission) (a : Arrival) → (t ≡ Clear → Fills (areaOf k e Out) b f (a .fifo)) → happenedNumber (unlessArrived t k f a .event .answer) ≡ 0
+      go : (t : Admission) (a : Arrival) → (t ≡ Clear → Fills (areaOf k e Out) b f (a .fifo)) → eventNumber (unlessArrived t k f a .event .answer) ≡ 0
           → Fills (areaOf k e Out) b f (unlessArrived t k f a .fifo)
       go Clear a h z = h refl
       go (Refused x) a h z = absurd (not-zero x z)

@@ -28,9 +28,9 @@ use Rattle.record.proofs.Passing.{record-is-sound, waiting-fits}
 use Rattle.host_rules.specs.declared.EventAnswer.{EventAnswer}
 use Rattle.host_rules.specs.declared.EventAnswer.the-variants as happened
 use Rattle.host_rules.specs.declared.CollectAnswer.{CollectAnswer}
-use Rattle.host_rules.specs.declared.CollectAnswer.the-variants as taken
+use Rattle.host_rules.specs.declared.CollectAnswer.the-variants as collect
 use Rattle.host_rules.specs.declared.CollectCalled.{CollectCalled}
-use Rattle.host_rules.specs.Host.{answerBy, leftBy, unless, entryIn, entryAt, Admitted, arrivalBy, arrivalRefusalIn, arrivalRefusal, done, unlessArrived, arrivalCall, collectionBy, collectionRefusalIn, collectionRefusal, packetIn, collectedFrom, takenBy, unlessCollected, collectionCall, InBuffer}
+use Rattle.host_rules.specs.Host.{answerBy, leftBy, unless, entryIn, entryAt, Admitted, arrivalBy, arrivalRefusalIn, arrivalRefusal, done, unlessArrived, arrivalCall, collectionBy, collectionRefusalIn, collectionRefusal, packetIn, collectedFrom, collectBy, unlessCollected, collectionCall, InBuffer}
 
 pub never {ℓ} : {A : Type ℓ} {x : Refusal} → Refused x ≡ Clear → A
 never e = let z : _≡_ {A = ℕ} 0 1 = cc in absurd (omega arith)
@@ -156,15 +156,15 @@ module _ (b : Board) (w : File) (f : Flags) (e m : ℕ) where
 
 -- the packet's place, where it is given
 module _ {t u : Admission} where
-  pub not-taking : {x : Refusal} (a : CollectAnswer) → t ≡ u → t ≡ Refused x → taken.Refused x ≡ takenBy u a
+  pub not-taking : {x : Refusal} (a : CollectAnswer) → t ≡ u → t ≡ Refused x → collect.Refused x ≡ collectBy u a
   not-taking a is e = rw (sym is ∙ e)
 
-  pub taking : {a o : CollectAnswer} → t ≡ u → t ≡ Clear → o ≡ a → o ≡ takenBy u a
+  pub taking : {a o : CollectAnswer} → t ≡ u → t ≡ Clear → o ≡ a → o ≡ collectBy u a
   taking is e p = rw (sym is ∙ e) p
 
 module _ (k : Record) (e : ℕ) (f : List ℕ) where
   pub collecting : {a : CollectAnswer} {w : File}
-      → a ≡ takenBy (collectionRefusalIn (k .regs .board) (k .regs .words) (k .irq) e (length f)) (packetIn (k .regs .board) (k .regs .words) e)
+      → a ≡ collectBy (collectionRefusalIn (k .regs .board) (k .regs .words) (k .irq) e (length f)) (packetIn (k .regs .board) (k .regs .words) e)
       → w ≡ leftBy (collectionRefusalIn (k .regs .board) (k .regs .words) (k .irq) e (length f)) (k .regs .words) (collected (k .regs .words) e)
       → record { answer = a; «record» = withRegs k w } ≡ collectionCall k e f
   unfolding collectionCall collectionRefusal collectedFrom
@@ -173,7 +173,7 @@ module _ (k : Record) (e : ℕ) (f : List ℕ) where
       ∙ by (collectionRefusalIn (k .regs .board) (k .regs .words) (k .irq) e (length f)) (packetIn (k .regs .board) (k .regs .words) e) (collected (k .regs .words) e)
     where
       by : (t : Admission) (p : CollectAnswer) (q : File)
-          → record { answer = takenBy t p; «record» = withRegs k (leftBy t (k .regs .words) q) } ≡ unlessCollected t k (record { answer = p; «record» = withRegs k q })
+          → record { answer = collectBy t p; «record» = withRegs k (leftBy t (k .regs .words) q) } ≡ unlessCollected t k (record { answer = p; «record» = withRegs k q })
       by (Refused x) p q = refl
       by Clear p q = refl
 

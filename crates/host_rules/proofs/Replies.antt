@@ -3,7 +3,7 @@ use Prim.Native.Nat.{ℕ}
 use mathlib.Core.Path.{_≡_, refl}
 use mathlib.Core.Bool.{Bool, true, false, not, cond, _||_}
 use mathlib.Core.List.{List}
-use lib.Dec.{eqb, ltb}
+use lib.Dec.{eqb, leb, ltb}
 use lib.ListN.{length}
 use Rattle.laws.specs.Lists.{pasted}
 use Rattle.board.specs.declared.Direction.{Direction}
@@ -17,18 +17,18 @@ use Rattle.record.specs.Record.{admissionNumber, recordSound, admissionBy, endp
 use Rattle.record.specs.Rows.{Row, Given}
 use Rattle.record.proofs.Numbers.{not-zero}
 use Rattle.record.proofs.Rows.{exactly, none-left, tested, tells-under, tells-from, tells-is, tells-set, tells-clear, tells-bad, tells-either, first-named, first-plain}
-use Rattle.host_rules.specs.declared.CollectAnswer.the-variants as taken
+use Rattle.host_rules.specs.declared.CollectAnswer.the-variants as collect
 use Rattle.host_rules.specs.declared.CollectCalled.{CollectCalled}
-use Rattle.host_rules.specs.Host.{done, unless, beyond, busResetCall, suspendCall, resumeCall, setupEndCall, missRefusal, missCall, underrunCall, overrunCall, entryAt, arrivalBy, arrivalRefusalIn, arrivalRefusal, Arrival, unlessArrived, arrivalCall, collectionBy, collectionRefusalIn, collectionRefusal, collectedFrom, unlessCollected, collectionCall, happenedNumber, takenNumber}
+use Rattle.host_rules.specs.Host.{done, unless, busResetCall, suspendCall, resumeCall, setupEndCall, missRefusal, missCall, underrunCall, overrunCall, arrivalBy, arrivalRefusalIn, arrivalRefusal, unlessArrived, arrivalCall, collectionBy, collectionRefusalIn, collectionRefusal, collectedFrom, unlessCollected, collectionCall, eventNumber, collectNumber}
 use Rattle.host_rules.specs.Replies.{plainRows, missRows, arrivalRows, collectionRows, Answers, Arrives, Collects}
 
 -- an event, by what its tests came to
 module _ (k : Record) (r : File) where
-  same-number : (t : Admission) → happenedNumber (unless t k r .answer) ≡ admissionNumber t
+  same-number : (t : Admission) → eventNumber (unless t k r .answer) ≡ admissionNumber t
   same-number Clear = refl
   same-number (Refused x) = refl
 
-  kept : (t : Admission) → (happenedNumber (unless t k r .answer) ≡ 0 → ⊥) → unless t k r .«record» ≡ k
+  kept : (t : Admission) → (eventNumber (unless t k r .answer) ≡ 0 → ⊥) → unless t k r .«record» ≡ k
   kept Clear n = absurd (n refl)
   kept (Refused x) n = refl
 
@@ -40,7 +40,7 @@ missed : (k : Record) (e : ℕ) (d : Direction) → Answers (missCall k e d) k (
 unfolding missCall recordSound endpointsOf
 missed k e d =
     answers k (missing (k .regs .words) e d) (missRefusal k e) (missRows k e)
-    (first-named k (eqb e 0 || beyond k e) (tells-either (eqb e 0) (beyond k e) (tells-is e 0) (tells-from (endpointsOf k) e)))
+    (first-named k (eqb e 0 || leb (endpointsOf k) e) (tells-either (eqb e 0) (leb (endpointsOf k) e) (tells-is e 0) (tells-from (endpointsOf k) e)))
 
 module _ (k : Record) where
   pub bus-reset : Answers (busResetCall k) k (plainRows k)
@@ -87,7 +87,7 @@ unfolding arrivalRefusal arrivalRefusalIn recordSound endpointsOf areaOf needOf
 arrival-given k e n m =
     let long = ltb (areaOf k e Out .size) n in
     let waits = sideAt (k .regs .words) e Out .ready in
-    rw (arrival-numbered (ltb m (needOf k)) (recordSound k) (beyond k e) long waits)
+    rw (arrival-numbered (ltb m (needOf k)) (recordSound k) (leb (endpointsOf k) e) long waits)
     (tested 15 _ _ _ (tells-under m (needOf k)) (tested 16 _ _ _ (tells-bad k) (tested 8 _ _ _ (tells-from (endpointsOf k) e) (tested 9 _ _ long (tells-under (areaOf k e Out .size) n) (tested 17 _ _ waits (tells-set waits) none-left)))))
 
 pub arrival : (k : Record) (e : ℕ) (b f : List ℕ) → Arrives (arrivalCall k e b f) k f (arrivalRows k e (length b) (length f))
@@ -102,24 +102,24 @@ module _ (k : Record) (e : ℕ) where
   abbrev left : Admission → CollectCalled
   left t = unlessCollected t k (collectedFrom k e)
 
-  taken-number : (t : Admission) → takenNumber (left t .answer) ≡ admissionNumber t
+  collect-number : (t : Admission) → collectNumber (left t .answer) ≡ admissionNumber t
   unfolding collectedFrom
-  taken-number Clear = refl
-  taken-number (Refused x) = refl
+  collect-number Clear = refl
+  collect-number (Refused x) = refl
 
-  taken-value : (t : Admission) → takenNumber (left t .answer) ≡ 0 → left t .answer ≡ taken.Done (areaOf k e In .start) (sideAt (k .regs .words) e In .len)
+  collect-value : (t : Admission) → collectNumber (left t .answer) ≡ 0 → left t .answer ≡ collect.Done (areaOf k e In .start) (sideAt (k .regs .words) e In .len)
   unfolding collectedFrom areaOf
-  taken-value Clear z = refl
-  taken-value (Refused x) z = absurd (not-zero x z)
+  collect-value Clear z = refl
+  collect-value (Refused x) z = absurd (not-zero x z)
 
-  taken-kept : (t : Admission) → (takenNumber (left t .answer) ≡ 0 → ⊥) → left t .«record» ≡ k
+  collect-kept : (t : Admission) → (collectNumber (left t .answer) ≡ 0 → ⊥) → left t .«record» ≡ k
   unfolding collectedFrom
-  taken-kept Clear n = absurd (n refl)
-  taken-kept (Refused x) n = refl
+  collect-kept Clear n = absurd (n refl)
+  collect-kept (Refused x) n = refl
 
   collects : (t : Admission) (rs : List Row) → Given (admissionNumber t) rs
       → Collects (unlessCollected t k (collectedFrom k e)) k rs (areaOf k e In .start) (sideAt (k .regs .words) e In .len)
-  collects t rs g = record { replies = exactly rs (rw (taken-number t) g); value = taken-value t; unchanged = taken-kept t }
+  collects t rs g = record { replies = exactly rs (rw (collect-number t) g); value = collect-value t; unchanged = collect-kept t }
 
 collection-numbered : (short passes beyond waits : Bool)
     → admissionNumber (collectionBy (admissionBy short passes beyond) waits) ≡ cond short 15 (cond (not passes) 16 (cond beyond 8 (cond (not waits) 17 0)))
@@ -133,7 +133,7 @@ collection-given : (k : Record) (e m : ℕ) → Given (admissionNumber (collecti
 unfolding collectionRefusal collectionRefusalIn recordSound endpointsOf needOf
 collection-given k e m =
     let waits = sideAt (k .regs .words) e In .ready in
-    rw (collection-numbered (ltb m (needOf k)) (recordSound k) (beyond k e) waits)
+    rw (collection-numbered (ltb m (needOf k)) (recordSound k) (leb (endpointsOf k) e) waits)
     (tested 15 _ _ _ (tells-under m (needOf k)) (tested 16 _ _ _ (tells-bad k) (tested 8 _ _ _ (tells-from (endpointsOf k) e) (tested 17 _ _ _ (tells-clear waits) none-left))))
 
 pub collection : (k : Record) (e : ℕ) (f : List ℕ)

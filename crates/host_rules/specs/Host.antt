@@ -18,14 +18,14 @@ use Rattle.record.specs.declared.Refusal.{Refusal}
 use Rattle.record.specs.declared.Refusal.the-variants.{TooLong, OutOfTurn}
 use Rattle.record.specs.declared.Admission.{Admission}
 use Rattle.record.specs.declared.Admission.the-variants.{Clear, Refused}
-use Rattle.record.specs.Record.{passes, recordSound, admissionBy, endpointsIn, endpointsOf, areaIn, areaOf, needIn, needOf, refusalNumber, withRegs}
+use Rattle.record.specs.Record.{passes, recordSound, admissionBy, endpointsIn, areaIn, areaOf, needIn, needOf, refusalNumber, withRegs}
 use Rattle.host_rules.specs.declared.EventAnswer.{EventAnswer}
 use Rattle.host_rules.specs.declared.EventAnswer.the-variants as happened
 use Rattle.host_rules.specs.declared.EventCalled.{EventCalled}
 use Rattle.host_rules.specs.declared.Signal.{Signal}
 use Rattle.host_rules.specs.declared.Signal.the-variants.{Bus, SetupEnd}
 use Rattle.host_rules.specs.declared.CollectAnswer.{CollectAnswer}
-use Rattle.host_rules.specs.declared.CollectAnswer.the-variants as taken
+use Rattle.host_rules.specs.declared.CollectAnswer.the-variants as collect
 use Rattle.host_rules.specs.declared.CollectCalled.{CollectCalled}
 
 -- document 01: "A refusal returns its number and changes nothing"
@@ -69,11 +69,7 @@ resumeCall k = unless (admissionBy false (recordSound k) false) k (busResume (k 
 unfoldable pub setupEndCall : Record → EventCalled
 setupEndCall k = unless (admissionBy false (recordSound k) false) k (setupEnded (k .regs .words))
 
--- reply 8: "endpoint 6 or more", the board's own last endpoint being the highest
-abbrev pub beyond : Record → ℕ → Bool
-beyond k e = leb (endpointsOf k) e
-
--- "(underrun, overrun: also 0)"
+-- reply 8: "endpoint 6 or more", the board's own last endpoint being the highest, "(underrun, overrun: also 0)"
 abbrev pub missRefusalIn : Board → File → Flags → ℕ → Admission
 missRefusalIn b w f e = admissionBy false (passes b w f) (eqb e 0 || leb (endpointsIn b) e)
 
@@ -145,18 +141,18 @@ collectionRefusal k e m = collectionRefusalIn (k .regs .board) (k .regs .words) 
 
 -- "collection (gives the packet's place in the FIFO buffer and its length, then drops it, ..)"
 abbrev pub packetIn : Board → File → ℕ → CollectAnswer
-packetIn b w e = taken.Done (areaIn b e In .start) (sideAt w e In .len)
+packetIn b w e = collect.Done (areaIn b e In .start) (sideAt w e In .len)
 
 unfoldable pub collectedFrom : Record → ℕ → CollectCalled
 collectedFrom k e = record { answer = packetIn (k .regs .board) (k .regs .words) e; «record» = withRegs k (collected (k .regs .words) e) }
 
 -- what is answered, the tests first
-abbrev pub takenBy : Admission → CollectAnswer → CollectAnswer
-takenBy (Refused x) a = taken.Refused x
-takenBy Clear a = a
+abbrev pub collectBy : Admission → CollectAnswer → CollectAnswer
+collectBy (Refused x) a = collect.Refused x
+collectBy Clear a = a
 
 abbrev pub unlessCollected : Admission → Record → CollectCalled → CollectCalled
-unlessCollected (Refused x) k a = record { answer = taken.Refused x; «record» = k }
+unlessCollected (Refused x) k a = record { answer = collect.Refused x; «record» = k }
 unlessCollected Clear k a = a
 
 unfoldable pub collectionCall : Record → ℕ → List ℕ → CollectCalled
@@ -164,18 +160,18 @@ collectionCall k e f = unlessCollected (collectionRefusal k e (length f)) k (col
 
 -- the place that is given lies in the buffer
 abbrev pub InBuffer : CollectAnswer → List ℕ → Type 0
-InBuffer (taken.Done start len) f = start + len ≤ length f
-InBuffer (taken.Refused x) f = Unit
+InBuffer (collect.Done start len) f = start + len ≤ length f
+InBuffer (collect.Refused x) f = Unit
 
 -- document 01's number of an answer, and its values: for a collection the bytes
-abbrev pub happenedNumber : EventAnswer → ℕ
-happenedNumber happened.Done = 0
-happenedNumber (happened.Refused x) = refusalNumber x
+abbrev pub eventNumber : EventAnswer → ℕ
+eventNumber happened.Done = 0
+eventNumber (happened.Refused x) = refusalNumber x
 
-abbrev pub takenNumber : CollectAnswer → ℕ
-takenNumber (taken.Done start len) = 0
-takenNumber (taken.Refused x) = refusalNumber x
+abbrev pub collectNumber : CollectAnswer → ℕ
+collectNumber (collect.Done start len) = 0
+collectNumber (collect.Refused x) = refusalNumber x
 
-abbrev pub takenValues : CollectAnswer → List ℕ → List ℕ
-takenValues (taken.Done start len) f = take len (drop start f)
-takenValues (taken.Refused x) f = []
+abbrev pub collectValues : CollectAnswer → List ℕ → List ℕ
+collectValues (collect.Done start len) f = take len (drop start f)
+collectValues (collect.Refused x) f = []

@@ -10,10 +10,10 @@ use Rattle.register_file.specs.Registers.{sideAt}
 use Rattle.record.specs.declared.Record.{Record}
 use Rattle.record.specs.Record.{endpointsOf, areaOf, needOf, SoundRecord}
 use Rattle.record.specs.Rows.{Row, row, Replies}
-use Rattle.host_rules.specs.declared.CollectAnswer.the-variants as taken
+use Rattle.host_rules.specs.declared.CollectAnswer.the-variants as collect
 use Rattle.host_rules.specs.declared.EventCalled.{EventCalled}
 use Rattle.host_rules.specs.declared.CollectCalled.{CollectCalled}
-use Rattle.host_rules.specs.Host.{Arrival, happenedNumber, takenNumber}
+use Rattle.host_rules.specs.Host.{Arrival, eventNumber, collectNumber}
 
 -- the rows of each event, in document 01's order, "15, 16, 8, then .. arrival 9, 17". What is not at an endpoint:
 abbrev pub plainRows : Record → List Row
@@ -46,16 +46,16 @@ collectionRows k e m =
 -- an event's answer: its number is given exactly when its row is the first that holds, 0 where none does; a refused event leaves the record as
 -- it was
 pub record Answers (a : EventCalled) (k : Record) (rs : List Row) : Type 0 where
-  pub replies : Replies (happenedNumber (a .answer)) rs
-  pub unchanged : (happenedNumber (a .answer) ≡ 0 → ⊥) → a .«record» ≡ k
+  pub replies : Replies (eventNumber (a .answer)) rs
+  pub unchanged : (eventNumber (a .answer) ≡ 0 → ⊥) → a .«record» ≡ k
 
 -- arrival: its event answers as the others do, and the FIFO buffer of a refused one stays
 pub record Arrives (o : Arrival) (k : Record) (f : List ℕ) (rs : List Row) : Type 0 where
   pub event : Answers (o .event) k rs
-  pub kept : (happenedNumber (o .event .answer) ≡ 0 → ⊥) → o .fifo ≡ f
+  pub kept : (eventNumber (o .event .answer) ≡ 0 → ⊥) → o .fifo ≡ f
 
 -- collection, whose answer has values: "the packet's place in the FIFO buffer and its length"
 pub record Collects (a : CollectCalled) (k : Record) (rs : List Row) (start len : ℕ) : Type 0 where
-  pub replies : Replies (takenNumber (a .answer)) rs
-  pub value : takenNumber (a .answer) ≡ 0 → a .answer ≡ taken.Done start len
-  pub unchanged : (takenNumber (a .answer) ≡ 0 → ⊥) → a .«record» ≡ k
+  pub replies : Replies (collectNumber (a .answer)) rs
+  pub value : collectNumber (a .answer) ≡ 0 → a .answer ≡ collect.Done start len
+  pub unchanged : (collectNumber (a .answer) ≡ 0 → ⊥) → a .«record» ≡ k

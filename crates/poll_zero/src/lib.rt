@@ -3,8 +3,8 @@ use control_state::ControlState;
 use control_state::ControlStateEnum;
 use csr::Csr0lSet;
 use record::Flags;
+use round_rules::AfterAccept;
 use round_rules::Progress;
-use round_rules::Stepped;
 ghost use mathlib.Core.Path.{_≡_};
 ghost use mathlib.Core.Bool.{true, false};
 ghost use Prim.Native.Nat.{_+_, _*_, _≤_, _<_};
@@ -184,7 +184,7 @@ fn put_back(f: Flags) -> Flags
     f
 }
 
-pub fn accept(c: ControlState, f: Flags) -> Stepped
+pub fn accept(c: ControlState, f: Flags) -> AfterAccept
     requires { ⌜ f .«ep_rx» < 64 ⌝ }
     ensures { λ o. ⌜ (o ≡ acceptStep c f) × (o .irq .«ep_rx» < 64) ⌝ }
 {
@@ -193,12 +193,12 @@ pub fn accept(c: ControlState, f: Flags) -> Stepped
         ControlStateEnum::Accepted => {
             let mut g = put_back(f);
             g.ep_tx = laws::raise(g.ep_tx, 0);
-            Stepped {
+            AfterAccept {
                 control_state: c.set_state(ControlStateEnum::Idle),
                 irq: g,
             }
         }
-        _ => Stepped {
+        _ => AfterAccept {
             control_state: c,
             irq: f,
         },

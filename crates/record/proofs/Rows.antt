@@ -7,16 +7,13 @@ use mathlib.Core.List.{List, [], _∷_}
 use native.Mathlib.Omega.{arith}
 use borrow.Author.Tests.{ltb-true, lt-ltb, leb-true, le-leb, leb-false, lt-leb, eqb-true, eq-eqb, not-true}
 use lib.Dec.{ltb, leb, eqb}
+use Rattle.laws.proofs.Tests.{clash}
 use Rattle.record.specs.declared.Record.{Record}
 use Rattle.record.specs.declared.Refusal.{Refusal}
-use Rattle.record.specs.declared.Admission.{Admission}
 use Rattle.record.specs.declared.Admission.the-variants.{Clear, Refused}
-use Rattle.record.specs.Record.{admissionNumber, recordSound, SoundRecord, refusalNumber, admissionBy}
+use Rattle.record.specs.Record.{admissionNumber, recordSound, SoundRecord, admissionBy}
 use Rattle.record.specs.Rows.{Row, row, Given, Replies}
 use Rattle.record.proofs.Passing.{record-is-sound, sound-record-passes}
-
-clash : {A : Type 0} → false ≡ true → A
-clash e = let z : _≡_ {A = ℕ} 0 1 = cc in absurd (omega arith)
 
 -- the rows give one number
 decided : (rs : List Row) {m n : ℕ} → Given m rs → Given n rs → m ≡ n
@@ -39,11 +36,11 @@ none-left = refl
 pub tested : (m : ℕ) {A : Type 0} (n : ℕ) (rs : List Row) (b : Bool) → (b ≡ true ↔ A) → Given n rs → Given (cond b m n) (row m A ∷ rs)
 unfolding Given
 tested m n rs true t g = inl (t .0 refl, refl)
-tested m n rs false t g = inr (λ a. clash (t .1 a), g)
+tested m n rs false t g = inr (λ a. clash (sym (t .1 a)), g)
 
 -- what the tests tell
 pub tells-not : {b : Bool} {A : Type 0} → (b ≡ true ↔ A) → not b ≡ true ↔ (A → ⊥)
-tells-not {b} {A} t = (λ e a. clash (sym (not-true b e) ∙ t .1 a), λ n. go b refl n)
+tells-not {b} {A} t = (λ e a. clash (sym (t .1 a) ∙ not-true b e), λ n. go b refl n)
   where
     go : (c : Bool) → b ≡ c → (A → ⊥) → not c ≡ true
     go true e n = absurd (n (t .0 e))
@@ -73,12 +70,12 @@ tells-either true b s t = (λ e. inl (s .0 refl), λ u. refl)
 tells-either false b {A} {B} s t = (λ e. inr (t .0 e), from)
   where
     from : A ⊎ B → b ≡ true
-    from (inl x) = clash (s .1 x)
+    from (inl x) = clash (sym (s .1 x))
     from (inr y) = t .1 y
 
 pub tells-both : (a b : Bool) {A B : Type 0} → (a ≡ true ↔ A) → (b ≡ true ↔ B) → (a && b) ≡ true ↔ (A × B)
 tells-both true b s t = (λ e. (s .0 refl, t .0 e), λ u. t .1 (u .1))
-tells-both false b s t = (λ e. clash e, λ u. clash (s .1 (u .0)))
+tells-both false b s t = (λ e. clash (sym e), λ u. clash (sym (s .1 (u .0))))
 
 pub tells-is : (a b : ℕ) → eqb a b ≡ true ↔ a ≡ b
 tells-is a b = (eqb-true a b, eq-eqb a b)

@@ -112,6 +112,22 @@ withControl k c = record { regs = k .regs; endpoints = k .endpoints; «control_s
 abbrev pub withIrq : Record → Flags → Record
 withIrq k f = record { regs = k .regs; endpoints = k .endpoints; «control_state» = k .«control_state»; irq = f }
 
+-- the flags with one part changed
+abbrev pub withReset : Flags → Bool → Flags
+withReset f b = record { reset = b; suspend = f .suspend; resume = f .resume; ep0 = f .ep0; «ep_tx» = f .«ep_tx»; «ep_rx» = f .«ep_rx» }
+
+abbrev pub withResume : Flags → Bool → Flags
+withResume f b = record { reset = f .reset; suspend = f .suspend; resume = b; ep0 = f .ep0; «ep_tx» = f .«ep_tx»; «ep_rx» = f .«ep_rx» }
+
+abbrev pub withEp0 : Flags → Bool → Flags
+withEp0 f b = record { reset = f .reset; suspend = f .suspend; resume = f .resume; ep0 = b; «ep_tx» = f .«ep_tx»; «ep_rx» = f .«ep_rx» }
+
+abbrev pub withTx : Flags → ℕ → Flags
+withTx f w = record { reset = f .reset; suspend = f .suspend; resume = f .resume; ep0 = f .ep0; «ep_tx» = w; «ep_rx» = f .«ep_rx» }
+
+abbrev pub withRx : Flags → ℕ → Flags
+withRx f w = record { reset = f .reset; suspend = f .suspend; resume = f .resume; ep0 = f .ep0; «ep_tx» = f .«ep_tx»; «ep_rx» = w }
+
 -- document 01's number of what the tests came to
 abbrev pub admissionNumber : Admission → ℕ
 admissionNumber Clear = 0

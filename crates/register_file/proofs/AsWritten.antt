@@ -12,7 +12,7 @@ use Rattle.laws.proofs.Tests.{and-zero, and-one}
 use Rattle.board.specs.declared.Direction.{Direction}
 use Rattle.board.specs.declared.Direction.the-variants.{Out, In}
 use Rattle.csr.specs.declared.Csr0l.{Csr0l}
-use Rattle.register_file.specs.Registers.{File, Whole, sideAt, withSide, index, faddr, setupend, withSetupend}
+use Rattle.register_file.specs.Registers.{File, Whole, sideAt, withSide, index, setupend, withSetupend}
 use Rattle.csr.specs.Control.{zeroTxStored, dropped, rxcsrlOf}
 use Rattle.register_file.specs.Control.{csr0lStored, csr0hFlushed, csr0lRead, rxcsrlRead, count0, rxcount}
 use Rattle.register_file.specs.Sound.{Sound}

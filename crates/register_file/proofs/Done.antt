@@ -2,7 +2,7 @@
 -- Assumes nothing.
 use Prim.Native.Nat.{ℕ}
 use mathlib.Core.Path.{_≡_}
-use mathlib.Core.Bool.{Bool, true, not, _&&_, cond}
+use mathlib.Core.Bool.{true, not, _&&_, cond}
 use lib.Dec.{eqb}
 use lib.ListN.{getD, set}
 use Rattle.board.specs.declared.Direction.the-variants.{Out, In}

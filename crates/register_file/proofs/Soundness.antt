@@ -1,7 +1,7 @@
 -- The register part of reply 16's test: the loop's step, and what a file that passes it says of each side.
 -- Assumes nothing.
-use Prim.Native.Nat.{ℕ, zero, suc, _+_, _*_, _<_, _≤_}
-use mathlib.Core.Path.{_≡_, refl, ap, sym, _∙_}
+use Prim.Native.Nat.{ℕ, zero, suc, _+_, _<_, _≤_}
+use mathlib.Core.Path.{_≡_, refl, ap, _∙_}
 use mathlib.Core.Bool.{Bool, true, false, cond}
 use mathlib.Core.Logic.{_⊎_, inl, inr}
 use mathlib.Core.List.{List}
@@ -10,7 +10,7 @@ use native.Mathlib.Nat.{lt-of-not-le}
 use native.Mathlib.Omega.{arith}
 use borrow.Author.Tests.{leb-true, le-leb, ltb-true, lt-ltb}
 use lib.Dec.{ltb, lit<, lit≤}
-use lib.ListN.{length, getD, set}
+use lib.ListN.{getD, set}
 use lib.Seq.{getD-set-same, getD-set-other}
 use Rattle.laws.specs.Tests.{_also_}
 use Rattle.laws.proofs.Tests.{also-left, also-right, also-both}
@@ -23,7 +23,7 @@ use Rattle.csr.specs.Control.{zeroTxStored, dropped}
 use Rattle.csr.specs.Sound.{sideSound, SideOk}
 use Rattle.register_file.specs.Control.{csr0lStored, csr0hFlushed}
 use Rattle.csr.proofs.Soundness.{side-ok, side-test, none-ok}
-use Rattle.register_file.specs.Registers.{File, Whole, freshFile, index, faddr, sideIn, sideAt, withSide, withSideIn, sideWord, withSetupend}
+use Rattle.register_file.specs.Registers.{File, Whole, freshFile, sideIn, sideAt, withSide, withSideIn, sideWord, withSetupend}
 use Rattle.register_file.specs.Sound.{wordsBelow, sidesBelow, regsSound, Clean, Sound}
 use Rattle.register_file.proofs.Words.{word-lt}
 use Rattle.register_file.proofs.Sides.{place-lt, there, past, put-there, unchanged, word-either, keeps, keeps-length, fresh-zero}

@@ -6,7 +6,6 @@ use native.Mathlib.Nat.{add-sub-cancel-left}
 use mathlib.Core.Path.{_≡_, refl, sym, ap, subst, _∙_}
 use mathlib.Core.Bool.{true, false}
 use mathlib.Core.List.{List, [], _∷_}
-use lib.Dec.{leb}
 use lib.ListN.{length, take, drop, replicate, length-take, length-drop, length-replicate}
 use Rattle.board.specs.declared.Direction.the-variants.{Out}
 use Rattle.record.specs.declared.Record.{Record}
@@ -25,14 +24,14 @@ use Rattle.transfer_rules.specs.declared.WriteAnswer.{WriteAnswer}
 use Rattle.transfer_rules.specs.declared.WriteAnswer.the-variants as wrote
 use Rattle.transfer_rules.specs.declared.WriteCalled.{WriteCalled}
 use Rattle.transfer_rules.specs.Write.{writeCall}
-use Rattle.transfer_rules.specs.WriteZero.{wroteNumber, wroteValues}
+use Rattle.transfer_rules.specs.WriteZero.{writeNumber, writeValues}
 use Rattle.transfer_rules.proofs.WriteAnswers as write-answers
 use Rattle.transfer_rules.specs.declared.ReadAnswer.{ReadAnswer}
 use Rattle.transfer_rules.specs.declared.ReadAnswer.the-variants as got
 use Rattle.transfer_rules.specs.declared.ReadCalled.{ReadCalled}
 use Rattle.transfer_rules.specs.Read.{ReadOutcome, readCall}
-use Rattle.transfer_rules.specs.ReadReplies.{Given, done as granted}
-use Rattle.transfer_rules.specs.ReadZero.{gotNumber, gotValues}
+use Rattle.transfer_rules.proofs.ReadCases.{ReadCase, done as granted}
+use Rattle.transfer_rules.specs.ReadZero.{readNumber, readValues}
 use Rattle.transfer_rules.specs.ReadTests.{waiting}
 use Rattle.transfer_rules.proofs.ReadAnswers as read-answers
 use Rattle.round_rules.specs.declared.PollCalled.{PollCalled}
@@ -43,12 +42,12 @@ use Rattle.host_rules.specs.declared.EventCalled.{EventCalled}
 use Rattle.host_rules.specs.declared.CollectCalled.{CollectCalled}
 use Rattle.host_rules.specs.Host as host
 use Rattle.calls.specs.Calls as calls
-use Rattle.trace_rules.specs.declared.BusEvent.{BusEvent}
-use Rattle.trace_rules.specs.declared.BusEvent.the-variants as bus
+use Rattle.event_rules.specs.declared.BusEvent.{BusEvent}
+use Rattle.event_rules.specs.declared.BusEvent.the-variants as bus
 use Rattle.trace_rules.specs.declared.Entry.{Entry}
 use Rattle.trace_rules.specs.declared.Entry.the-variants.{Allocate, Init, Reset, Address, Write, Read, Stall, IsStalled, Poll, Interrupt, Enable, Arrival, Collect, Bus, SetupEnd, Underrun, Overrun}
 use Rattle.trace_rules.specs.Entries.{codeOf, Within}
-use Rattle.report_rules.specs.Shown.{Gives, wroteFits, gotFits}
+use Rattle.report_rules.specs.Shown.{Gives, writeFits, readFits}
 use Rattle.report_rules.specs.declared.Acted.{Acted}
 use Rattle.report_rules.specs.Act.{state, busOperation, packet, operation, code, left, did, acted, Acts}
 
@@ -94,12 +93,12 @@ module _ {b a : List ℕ} {r : Acted} {code : ℕ} where
       (record { kept = λ i. state (g .kept i) (m c .0) (m c .1); counted = g .counted; shown = g .shown })
 
   module _ (f : List ℕ) {l : List ℕ} where
-    pub by-called : {x : Called} {o : impl.Outcome} → record { call = x; list = l } ≡ o → Gives b a r code (x .«record») (x .stores) (impl.replyNumber (x .answer)) []
+    pub by-called : {x : Called} {o : impl.CallOutcome} → record { call = x; list = l } ≡ o → Gives b a r code (x .«record») (x .stores) (impl.replyNumber (x .answer)) []
         → Acts b a r f l code (left (f, o .list) (calls.called o))
     by-called e g = by (λ o. (f, o .list)) (ap calls.called e) g
 
-    pub by-told : {x : StalledCalled} {o : impl-stall.ToldOutcome} → record { call = x; list = l } ≡ o
-        → Gives b a r code (x .«record») (x .stores) (impl-stall.toldNumber (x .answer)) (impl-stall.toldValues (x .answer)) → Acts b a r f l code (left (f, o .list) (calls.told o))
+    pub by-told : {x : StalledCalled} {o : impl-stall.StalledOutcome} → record { call = x; list = l } ≡ o
+        → Gives b a r code (x .«record») (x .stores) (impl-stall.stalledNumber (x .answer)) (impl-stall.stalledValues (x .answer)) → Acts b a r f l code (left (f, o .list) (calls.told o))
     by-told e g = by (λ o. (f, o .list)) (ap calls.told e) g
 
     pub by-polled : {x : PollCalled} {o : PollOutcome} → record { result = x; list = l } ≡ o
@@ -107,40 +106,40 @@ module _ {b a : List ℕ} {r : Acted} {code : ℕ} where
     by-polled e g = by (λ o. (f, o .list)) (ap calls.polled e) g
 
     pub by-fetched : {x : ReadCalled} {buf : List ℕ} {o : ReadOutcome} → record { result = x; list = l; buf = buf } ≡ o
-        → Gives b a r code (x .«record») (x .stores) (gotNumber (x .answer)) (gotValues (x .answer) buf) → Acts b a r f l code (left (f, o .list) (calls.fetched o))
+        → Gives b a r code (x .«record») (x .stores) (readNumber (x .answer)) (readValues (x .answer) buf) → Acts b a r f l code (left (f, o .list) (calls.fetched o))
     by-fetched e g = by (λ o. (f, o .list)) (ap calls.fetched e) g
 
   module _ (f l : List ℕ) where
     pub by-allocated : {x o : AllocCalled} → x ≡ o
-        → Gives b a r code (x .«record») 0 (impl-alloc.allocationNumber (x .answer)) (impl-alloc.allocationValues (x .answer)) → Acts b a r f l code (left (f, l) (calls.allocated o))
+        → Gives b a r code (x .«record») 0 (impl-alloc.allocNumber (x .answer)) (impl-alloc.allocValues (x .answer)) → Acts b a r f l code (left (f, l) (calls.allocated o))
     by-allocated e g = by (λ o. (f, l)) (ap calls.allocated e) g
 
     pub by-interrupted : {x o : InterruptCalled} → x ≡ o → Gives b a r code (x .«record») 0 (interruptNumber (x .answer)) [] → Acts b a r f l code (left (f, l) (calls.interrupted o))
     by-interrupted e g = by (λ o. (f, l)) (ap calls.interrupted e) g
 
-    pub by-happened : {x o : EventCalled} → x ≡ o → Gives b a r code (x .«record») 0 (host.happenedNumber (x .answer)) [] → Acts b a r f l code (left (f, l) (calls.happened o))
+    pub by-happened : {x o : EventCalled} → x ≡ o → Gives b a r code (x .«record») 0 (host.eventNumber (x .answer)) [] → Acts b a r f l code (left (f, l) (calls.happened o))
     by-happened e g = by (λ o. (f, l)) (ap calls.happened e) g
 
     pub by-bus : (k : Record) (x : EventCalled) (e : BusEvent) → calls.happened x ≡ calls.outcome k (busOperation e)
-        → Gives b a r code (x .«record») 0 (host.happenedNumber (x .answer)) [] → Acts b a r f l code (did (state k f l) (busOperation e))
+        → Gives b a r code (x .«record») 0 (host.eventNumber (x .answer)) [] → Acts b a r f l code (did (state k f l) (busOperation e))
     by-bus k x bus.Reset e g = by (λ o. (f, l)) e g
     by-bus k x bus.Suspend e g = by (λ o. (f, l)) e g
     by-bus k x bus.Resume e g = by (λ o. (f, l)) e g
 
-    pub by-collected : {x o : CollectCalled} → x ≡ o → Gives b a r code (x .«record») 0 (host.takenNumber (x .answer)) (host.takenValues (x .answer) f)
+    pub by-collected : {x o : CollectCalled} → x ≡ o → Gives b a r code (x .«record») 0 (host.collectNumber (x .answer)) (host.collectValues (x .answer) f)
         → Acts b a r f l code (left (f, l) (calls.collected f o))
     by-collected e g = by (λ o. (f, l)) (ap (calls.collected f) e) g
 
   -- a packet is handed on as a part of the trace
   module _ (k : Record) (ep : ℕ) (s : List ℕ) (start n : ℕ) (f : List ℕ) {f′ : List ℕ} where
     pub by-written : (l : List ℕ) {l′ : List ℕ} {x : WriteCalled} → record { result = x; fifo = f′; list = l′ } ≡ writeCall k ep (take (start + n - start) (drop start s)) f l
-        → Gives b a r code (x .«record») (x .stores) (wroteNumber (x .answer)) (wroteValues (x .answer))
+        → Gives b a r code (x .«record») (x .stores) (writeNumber (x .answer)) (writeValues (x .answer))
         → Acts b a r f′ l′ code (did (state k f l) (operation s (Write ep start n) f l))
     by-written l e g =
         by (λ o. (o .fifo, o .list)) (ap calls.written (e ∙ ap (λ (p : List ℕ). writeCall k ep p f l) (handed-on s start n))) g
 
     pub by-arrived : (l : List ℕ) {x : EventCalled} → record { event = x; fifo = f′ } ≡ host.arrivalCall k ep (take (start + n - start) (drop start s)) f
-        → Gives b a r code (x .«record») 0 (host.happenedNumber (x .answer)) [] → Acts b a r f′ l code (did (state k f l) (operation s (Arrival ep start n) f l))
+        → Gives b a r code (x .«record») 0 (host.eventNumber (x .answer)) [] → Acts b a r f′ l code (did (state k f l) (operation s (Arrival ep start n) f l))
     by-arrived l e g =
         by (λ o. (o .fifo, l)) (ap calls.arrived (e ∙ ap (λ (p : List ℕ). host.arrivalCall k ep p f) (handed-on s start n))) g
 
@@ -156,13 +155,13 @@ read-within s e h = rw e at h
 
 -- a written length is the packet's
 pub wrote-fits : (k : Record) (ep : ℕ) (s : List ℕ) (start n : ℕ) (f l : List ℕ) {x : WriteCalled} {f′ l′ : List ℕ}
-    → record { result = x; fifo = f′; list = l′ } ≡ writeCall k ep (take (start + n - start) (drop start s)) f l → length s ≤ 65536 → wroteFits (x .answer)
+    → record { result = x; fifo = f′; list = l′ } ≡ writeCall k ep (take (start + n - start) (drop start s)) f l → length s ≤ 65536 → writeFits (x .answer)
 wrote-fits k ep s start n f l {x} e h = go (x .answer) (λ i. e i .result .answer)
   where
     p : List ℕ
     p = take (start + n - start) (drop start s)
 
-    go : (y : WriteAnswer) → y ≡ writeCall k ep p f l .result .answer → wroteFits y
+    go : (y : WriteAnswer) → y ≡ writeCall k ep p f l .result .answer → writeFits y
     go (wrote.Done m) q =
         omega (arith, h, write-answers.value k ep p f l m (sym q), length-take (start + n - start) (drop start s), length-drop start s)
     go (wrote.Refused z) q = tt
@@ -178,15 +177,15 @@ module _ (k : Record) (ep : ℕ) (buf f l : List ℕ) where
       omega (arith, fits, in-area, lent .0)
 
   count-in : (n : ℕ) → readCall k ep buf f l .result .answer ≡ got.Done n → n ≤ length f
-  count-in n e = go (read-answers.exactly k ep buf f l 0 .0 (ap gotNumber e))
+  count-in n e = go (read-answers.exactly k ep buf f l 0 .0 (ap readNumber e))
     where
-      go : Given k ep (length buf) (length f) (length l) 0 → n ≤ length f
+      go : ReadCase k ep (length buf) (length f) (length l) 0 → n ≤ length f
       go (granted a s t u) = omega (arith, read-answers.value k ep buf f l n e, waiting-in (a .lent) (a .passes))
 
-  pub got-fits : {x : ReadCalled} {l′ buf′ : List ℕ} → record { result = x; list = l′; buf = buf′ } ≡ readCall k ep buf f l → length f ≤ 2000 → gotFits (x .answer)
+  pub got-fits : {x : ReadCalled} {l′ buf′ : List ℕ} → record { result = x; list = l′; buf = buf′ } ≡ readCall k ep buf f l → length f ≤ 2000 → readFits (x .answer)
   got-fits {x} e h = go (x .answer) (λ i. e i .result .answer)
     where
-      go : (y : ReadAnswer) → y ≡ readCall k ep buf f l .result .answer → gotFits y
+      go : (y : ReadAnswer) → y ≡ readCall k ep buf f l .result .answer → readFits y
       go (got.Done n) q = omega (arith, h, count-in n (sym q))
       go (got.Refused z) q = tt
 

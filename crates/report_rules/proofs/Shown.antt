@@ -18,17 +18,17 @@ use Rattle.call_rules.specs.declared.AllocAnswer.{AllocAnswer}
 use Rattle.call_rules.specs.declared.AllocAnswer.the-variants as allocation
 use Rattle.call_rules.specs.declared.StalledAnswer.{StalledAnswer}
 use Rattle.call_rules.specs.declared.StalledAnswer.the-variants as told
-use Rattle.call_rules.specs.Alloc.{allocationNumber, allocationValues}
-use Rattle.call_rules.specs.Stall.{toldNumber, toldValues}
+use Rattle.call_rules.specs.Alloc.{allocNumber, allocValues}
+use Rattle.call_rules.specs.Stall.{stalledNumber, stalledValues}
 use Rattle.call_rules.specs.declared.InterruptAnswer.{InterruptAnswer}
 use Rattle.call_rules.specs.declared.InterruptAnswer.the-variants as interrupted
 use Rattle.call_rules.specs.Interrupt.{interruptNumber}
 use Rattle.transfer_rules.specs.declared.WriteAnswer as write
 use Rattle.transfer_rules.specs.declared.WriteAnswer.the-variants as wrote
-use Rattle.transfer_rules.specs.WriteZero.{wroteNumber, wroteValues}
+use Rattle.transfer_rules.specs.WriteZero.{writeNumber, writeValues}
 use Rattle.transfer_rules.specs.declared.ReadAnswer.{ReadAnswer}
 use Rattle.transfer_rules.specs.declared.ReadAnswer.the-variants as got
-use Rattle.transfer_rules.specs.ReadZero.{gotNumber, gotValues}
+use Rattle.transfer_rules.specs.ReadZero.{readNumber, readValues}
 use Rattle.round_rules.specs.declared.Masks.{Masks}
 use Rattle.round_rules.specs.declared.PollResult.{PollResult}
 use Rattle.round_rules.specs.declared.PollResult.the-variants as result
@@ -36,9 +36,9 @@ use Rattle.round_rules.specs.declared.PollAnswer.{PollAnswer}
 use Rattle.round_rules.specs.declared.PollAnswer.the-variants as answer
 use Rattle.round_rules.specs.Poll.{pollNumber, pollValues, resultValues}
 use Rattle.host_rules.specs.declared.CollectAnswer.{CollectAnswer}
-use Rattle.host_rules.specs.declared.CollectAnswer.the-variants as taken
-use Rattle.host_rules.specs.Host.{takenNumber, takenValues, InBuffer}
-use Rattle.report_rules.specs.Shown.{Shows, wroteFits, gotFits}
+use Rattle.host_rules.specs.declared.CollectAnswer.the-variants as collect
+use Rattle.host_rules.specs.Host.{collectNumber, collectValues, InBuffer}
+use Rattle.report_rules.specs.Shown.{Shows, writeFits, readFits}
 
 module _ {b a : List ℕ} {r code : ℕ} where
   -- the written line, whose numbers may be said otherwise
@@ -61,29 +61,29 @@ module _ {b a : List ℕ} {r code : ℕ} where
   not-taken-in e s = rw e s
 
   pub allocated : {y : AllocAnswer} {n v : ℕ} → y ≡ allocation.Done n → v ≡ n → Wrote b a 0 r (line (code ∷ 0 ∷ v ∷ [])) → r ≤ 100 → 100 ≤ length b
-      → Shows b a r code (allocationNumber y) (allocationValues y)
+      → Shows b a r code (allocNumber y) (allocValues y)
   allocated e f w h room = rw e (one f w h room)
 
   pub not-given : {y : AllocAnswer} {x : EndpointAllocError} {m : ℕ} → y ≡ allocation.NotGiven x → m ≡ errorNumber x → Wrote b a 0 r (line (code ∷ m ∷ [])) → r ≤ 100
-      → 100 ≤ length b → Shows b a r code (allocationNumber y) (allocationValues y)
+      → 100 ≤ length b → Shows b a r code (allocNumber y) (allocValues y)
   not-given e f w h room = rw e (plain f w h room)
 
   pub not-allocated : {y : AllocAnswer} {x : Refusal} → y ≡ allocation.Refused x → Shows b a r code (refusalNumber x) []
-      → Shows b a r code (allocationNumber y) (allocationValues y)
+      → Shows b a r code (allocNumber y) (allocValues y)
   not-allocated e s = rw e s
 
   pub told-done : {y : StalledAnswer} {t : Bool} {v : ℕ} → y ≡ told.Done t → v ≡ cond t 1 0 → Wrote b a 0 r (line (code ∷ 0 ∷ v ∷ [])) → r ≤ 100 → 100 ≤ length b
-      → Shows b a r code (toldNumber y) (toldValues y)
+      → Shows b a r code (stalledNumber y) (stalledValues y)
   told-done e f w h room = rw e (one f w h room)
 
-  pub not-told : {y : StalledAnswer} {x : Refusal} → y ≡ told.Refused x → Shows b a r code (refusalNumber x) [] → Shows b a r code (toldNumber y) (toldValues y)
+  pub not-told : {y : StalledAnswer} {x : Refusal} → y ≡ told.Refused x → Shows b a r code (refusalNumber x) [] → Shows b a r code (stalledNumber y) (stalledValues y)
   not-told e s = rw e s
 
   pub written : {y : write.WriteAnswer} {n : ℕ} → y ≡ wrote.Done n → Wrote b a 0 r (line (code ∷ 0 ∷ n ∷ [])) → r ≤ 100 → 100 ≤ length b
-      → Shows b a r code (wroteNumber y) (wroteValues y)
+      → Shows b a r code (writeNumber y) (writeValues y)
   written {y} {n} e w h room = rw e (one {v = n} (λ i. n) w h room)
 
-  pub not-written : {y : write.WriteAnswer} {x : Refusal} → y ≡ wrote.Refused x → Shows b a r code (refusalNumber x) [] → Shows b a r code (wroteNumber y) (wroteValues y)
+  pub not-written : {y : write.WriteAnswer} {x : Refusal} → y ≡ wrote.Refused x → Shows b a r code (refusalNumber x) [] → Shows b a r code (writeNumber y) (writeValues y)
   not-written e s = rw e s
 
   pub stored : (n m : ℕ) (buf : List ℕ) → m ≡ min n (length buf) → Wrote b a 0 r (line (code ∷ 0 ∷ n ∷ take m buf)) → r ≤ 100 + 4 * length (take m buf)
@@ -92,10 +92,10 @@ module _ {b a : List ℕ} {r code : ℕ} where
       shows (100 + 4 * length (take m buf)) (λ i. 0) (ap (λ (k : ℕ). n ∷ take k buf) e) w h (omega (arith, room, length-take m buf))
 
   pub read-done : {y : ReadAnswer} {n : ℕ} (buf : List ℕ) → y ≡ got.Done n → Shows b a r code 0 (n ∷ take (min n (length buf)) buf)
-      → Shows b a r code (gotNumber y) (gotValues y buf)
+      → Shows b a r code (readNumber y) (readValues y buf)
   read-done buf e s = rw e s
 
-  pub not-read : {y : ReadAnswer} {x : Refusal} (buf : List ℕ) → y ≡ got.Refused x → Shows b a r code (refusalNumber x) [] → Shows b a r code (gotNumber y) (gotValues y buf)
+  pub not-read : {y : ReadAnswer} {x : Refusal} (buf : List ℕ) → y ≡ got.Refused x → Shows b a r code (refusalNumber x) [] → Shows b a r code (readNumber y) (readValues y buf)
   not-read buf e s = rw e s
 
   pub none : {y : PollResult} → y ≡ result.None → Wrote b a 0 r (line (code ∷ 0 ∷ 0 ∷ [])) → r ≤ 100 → 100 ≤ length b → Shows b a r code 0 (resultValues y)
@@ -129,20 +129,20 @@ module _ {b a : List ℕ} {r code : ℕ} where
       (ap (λ (n : ℕ). take n (drop start fifo)) (add-sub-cancel-left start len)) w h
       (omega (arith, room, length-take (start + len - start) (drop start fifo), length-drop start fifo))
 
-  pub collected : {y : CollectAnswer} {start len : ℕ} (fifo : List ℕ) → y ≡ taken.Done start len → Shows b a r code 0 (take len (drop start fifo))
-      → Shows b a r code (takenNumber y) (takenValues y fifo)
+  pub collected : {y : CollectAnswer} {start len : ℕ} (fifo : List ℕ) → y ≡ collect.Done start len → Shows b a r code 0 (take len (drop start fifo))
+      → Shows b a r code (collectNumber y) (collectValues y fifo)
   collected fifo e s = rw e s
 
-  pub not-collected : {y : CollectAnswer} {x : Refusal} (fifo : List ℕ) → y ≡ taken.Refused x → Shows b a r code (refusalNumber x) []
-      → Shows b a r code (takenNumber y) (takenValues y fifo)
+  pub not-collected : {y : CollectAnswer} {x : Refusal} (fifo : List ℕ) → y ≡ collect.Refused x → Shows b a r code (refusalNumber x) []
+      → Shows b a r code (collectNumber y) (collectValues y fifo)
   not-collected fifo e s = rw e s
 
 -- what the callers of these functions have shown of an answer
-pub in-buffer : {y : CollectAnswer} {start len : ℕ} (fifo : List ℕ) → y ≡ taken.Done start len → InBuffer y fifo → start + len ≤ length fifo
+pub in-buffer : {y : CollectAnswer} {start len : ℕ} (fifo : List ℕ) → y ≡ collect.Done start len → InBuffer y fifo → start + len ≤ length fifo
 in-buffer fifo e h = rw e at h
 
-pub wrote-small : {y : write.WriteAnswer} {n : ℕ} → y ≡ wrote.Done n → wroteFits y → n < 2 ^ 32
+pub wrote-small : {y : write.WriteAnswer} {n : ℕ} → y ≡ wrote.Done n → writeFits y → n < 2 ^ 32
 wrote-small e h = rw e at h
 
-pub got-small : {y : ReadAnswer} {n : ℕ} → y ≡ got.Done n → gotFits y → n < 2 ^ 32
+pub got-small : {y : ReadAnswer} {n : ℕ} → y ≡ got.Done n → readFits y → n < 2 ^ 32
 got-small e h = rw e at h

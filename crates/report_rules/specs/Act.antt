@@ -9,8 +9,8 @@ use Rattle.endpoints.specs.Endpoints.{ask}
 use Rattle.record.specs.declared.Record.{Record}
 use Rattle.calls.specs.Calls as calls
 use Rattle.calls.specs.Calls.{Op, allocEp, busInit, enable, reset, setDeviceAddress, write, read, setStalled, isStalled, poll, onInterrupt, forceReset, arrival, collection, busReset, suspend, resume, setupEnd, underrun, overrun, outcome}
-use Rattle.trace_rules.specs.declared.BusEvent.{BusEvent}
-use Rattle.trace_rules.specs.declared.BusEvent.the-variants as bus
+use Rattle.event_rules.specs.declared.BusEvent.{BusEvent}
+use Rattle.event_rules.specs.declared.BusEvent.the-variants as bus
 use Rattle.trace_rules.specs.declared.Entry.{Entry}
 use Rattle.trace_rules.specs.declared.Entry.the-variants.{Allocate, Init, Reset, Address, Write, Read, Stall, IsStalled, Poll, Interrupt, Enable, Arrival, Collect, Bus, SetupEnd, Underrun, Overrun}
 use Rattle.report_rules.specs.Shown.{Shows}
@@ -26,7 +26,7 @@ abbrev pub state : Record → List ℕ → List ℕ → State
 state k f l = record { «record» = k; fifo = f; list = l }
 
 -- all that an entry leaves: how many stores its call listed, and the reply and values that its line shows
-pub record Outcome : Type 0 where
+pub record EntryOutcome : Type 0 where
   pub state : State
   pub stores : ℕ
   pub reply : ℕ
@@ -109,18 +109,18 @@ memory x (underrun e) o = (x .fifo, x .list)
 memory x (overrun e) o = (x .fifo, x .list)
 
 -- of the operation's outcome o, with the memory m after it
-abbrev pub left : List ℕ × List ℕ → calls.Outcome → Outcome
+abbrev pub left : List ℕ × List ℕ → calls.Outcome → EntryOutcome
 left m o = record { state = state (o .«record») (m .0) (m .1); stores = o .stores; reply = o .reply; values = o .values }
 
 -- the operation p in the state x
-abbrev pub did : State → Op → Outcome
+abbrev pub did : State → Op → EntryOutcome
 did x p = left (memory x p (outcome (x .«record») p)) (outcome (x .«record») p)
 
-unfoldable pub acted : List ℕ → Entry → State → Outcome
+unfoldable pub acted : List ℕ → Entry → State → EntryOutcome
 acted s e x = did x (operation s e (x .fifo) (x .list))
 
 -- what the program has of an entry, f and l being the FIFO buffer and the list at exit
-pub record Acts (before after : List ℕ) (r : Acted) (f l : List ℕ) (code : ℕ) (o : Outcome) : Type 0 where
+pub record Acts (before after : List ℕ) (r : Acted) (f l : List ℕ) (code : ℕ) (o : EntryOutcome) : Type 0 where
   pub kept : state (r .«record») f l ≡ o .state
   pub counted : r .stores ≡ o .stores
   pub shown : Shows before after (r .len) code (o .reply) (o .values)

@@ -13,13 +13,13 @@ use Rattle.trace_rules.specs.declared.Entry.{Entry}
 use Rattle.trace_rules.specs.declared.Parsed.{Parsed}
 use Rattle.trace_rules.specs.declared.Parsed.the-variants as parsed
 use Rattle.trace_rules.specs.Entries.{codeOf, entryAt}
-use Rattle.report_rules.specs.Act.{State, state, Outcome, acted}
+use Rattle.report_rules.specs.Act.{State, state, EntryOutcome, acted}
 use Rattle.report_rules.specs.declared.Came.{Came}
 use Rattle.report_rules.specs.declared.Came.the-variants.{Line, End, Bad}
 use Rattle.report_rules.specs.declared.Stepped.{Stepped}
 
 -- "per entry its code, reply and values in decimal"; "A refused entry prints code and reply only"
-unfoldable pub lineOf : Entry → Outcome → List ℕ
+unfoldable pub lineOf : Entry → EntryOutcome → List ℕ
 lineOf e o = line (codeOf e ∷ o .reply ∷ o .values)
 
 -- The report from a place on, by what stands there. n entries came before, and `rest` is the report after this one.

@@ -25,10 +25,10 @@ pub record Gives (before after : List ℕ) (r : Acted) (code : ℕ) (k : Record)
   pub shown : Shows before after (r .len) code reply values
 
 -- a length that is printed is one that the decimal writer takes
-abbrev pub wroteFits : write.WriteAnswer → Type 0
-wroteFits (wrote.Done n) = n < 2 ^ 32
-wroteFits (wrote.Refused x) = Unit
+abbrev pub writeFits : write.WriteAnswer → Type 0
+writeFits (wrote.Done n) = n < 2 ^ 32
+writeFits (wrote.Refused x) = Unit
 
-abbrev pub gotFits : ReadAnswer → Type 0
-gotFits (got.Done n) = n < 2 ^ 32
-gotFits (got.Refused x) = Unit
+abbrev pub readFits : ReadAnswer → Type 0
+readFits (got.Done n) = n < 2 ^ 32
+readFits (got.Refused x) = Unit

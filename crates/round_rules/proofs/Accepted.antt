@@ -3,7 +3,7 @@ use Prim.Native.Nat.{ℕ, _<_}
 use mathlib.Core.Path.{_≡_, refl, sym, ap, subst, _∙_}
 use mathlib.Core.Bool.{Bool, true, false, not, _&&_, _||_, cond}
 use borrow.Author.Tests.{ne-eqb}
-use lib.Dec.{eqb, lit<}
+use lib.Dec.{lit<}
 use Rattle.laws.specs.Words.{bit, raised, clear}
 use Rattle.laws.proofs.Words.{bit-raised, bit-clear, raised-lt6, clear-lt}
 use Rattle.laws.proofs.Tests.{and-zero, and-one, or-zero, or-one}
@@ -12,8 +12,8 @@ use Rattle.control_state.specs.declared.ControlStateEnum.{ControlStateEnum}
 use Rattle.control_state.specs.declared.ControlStateEnum.the-variants.{Idle, Setup, DataIn, DataOut, Accepted, NodataPhase}
 use Rattle.control_state.specs.Control.{withState}
 use Rattle.record.specs.declared.Flags.{Flags}
-use Rattle.round_rules.specs.declared.Stepped.{Stepped}
-use Rattle.round_rules.specs.Zero.{withEp0, withTx, withRx, putBack, acceptedBy, acceptStep}
+use Rattle.record.specs.Record.{withEp0, withTx, withRx}
+use Rattle.round_rules.specs.Zero.{putBack, acceptedBy, acceptStep}
 use Rattle.round_rules.specs.Accepted.{Accepts}
 
 module _ (c : ControlState) (f : Flags) where

@@ -19,14 +19,14 @@ use Rattle.record.specs.declared.Refusal.{Refusal}
 use Rattle.record.specs.declared.Admission.{Admission}
 use Rattle.record.specs.declared.Admission.the-variants as admission
 use Rattle.record.specs.declared.Record.{Record}
-use Rattle.record.specs.Record.{flagsSound, passes, admissionBy}
+use Rattle.record.specs.Record.{flagsSound, passes, admissionBy, withReset, withResume, withTx, withRx}
 use Rattle.record.proofs.Rows.{none-refused}
-use Rattle.round_rules.specs.Zero.{Round, round, acceptStep, withTx, withRx}
-use Rattle.round_rules.specs.declared.Stepped.{Stepped}
+use Rattle.round_rules.specs.Zero.{Round, round, acceptStep}
+use Rattle.round_rules.specs.declared.AfterAccept.{AfterAccept}
 use Rattle.round_rules.specs.Walk.{Walk, walked}
-use Rattle.round_rules.specs.Round.{told, withReset, withResume}
+use Rattle.round_rules.specs.Round.{told}
 use Rattle.round_rules.specs.Poll.{After, after, answered, polled, afterOf, outcomeOf, ended, walkedOn, acceptedOn, roundOut, pollBy, pollLogged, pollServed, pollAdmitted, pollCall}
-use Rattle.round_rules.specs.declared.Answered.{Answered}
+use Rattle.round_rules.specs.declared.PollRan.{PollRan}
 use Rattle.round_rules.specs.declared.PollAnswer.the-variants.{Refused}
 use Rattle.round_rules.specs.declared.PollResult.{PollResult}
 use Rattle.round_rules.specs.declared.PollResult.the-variants.{Data, Reset, Resume, Suspend}
@@ -39,18 +39,18 @@ told-data out sent setup t q = when-true _ _ t (ap (λ (n : ℕ). Data (record {
 
 -- the end of a round, and the Accepted step before the walk
 module _ (o : Round) where
-  pub walked-on : {w : Walk} {a : PollResult} {p : Answered} → w ≡ walked (o .irq .«ep_rx») (o .log) → a ≡ told (w .out) (o .irq .«ep_tx») (o .setup)
+  pub walked-on : {w : Walk} {a : PollResult} {p : PollRan} → w ≡ walked (o .irq .«ep_rx») (o .log) → a ≡ told (w .out) (o .irq .«ep_tx») (o .setup)
       → p ≡ polled a (w .log .count) (o .control) (withRx (withTx (o .irq) 0) (w .out)) → afterOf p (w .log .regs) (w .log .list) ≡ walkedOn o
   unfolding walkedOn ended
   walked-on {w} p q s =
-      ap (λ (x : Answered). afterOf x (w .log .regs) (w .log .list))
+      ap (λ (x : PollRan). afterOf x (w .log .regs) (w .log .list))
       (s ∙ ap (λ (x : PollResult). polled x (w .log .count) (o .control) (withRx (withTx (o .irq) 0) (w .out))) q)
       ∙ ap (ended o) p
 
-  pub accepted-on : {s : Stepped} {q : After} → s ≡ acceptStep (o .control) (o .irq) → q ≡ walkedOn (round (o .log) (s .«control_state») (s .irq) (o .setup))
+  pub accepted-on : {s : AfterAccept} {q : After} → s ≡ acceptStep (o .control) (o .irq) → q ≡ walkedOn (round (o .log) (s .«control_state») (s .irq) (o .setup))
       → q ≡ acceptedOn o
   unfolding acceptedOn
-  accepted-on p q = q ∙ ap (λ (s : Stepped). walkedOn (round (o .log) (s .«control_state») (s .irq) (o .setup))) p
+  accepted-on p q = q ∙ ap (λ (s : AfterAccept). walkedOn (round (o .log) (s .«control_state») (s .irq) (o .setup))) p
 
 -- Reset, Resume, Suspend, or a round
 module _ (g : Log) (c : ControlState) (f : Flags) where
@@ -58,18 +58,18 @@ module _ (g : Log) (c : ControlState) (f : Flags) where
   unfolding pollLogged
   by-flags p q s e = e ∙ (λ i. pollBy (sym p i) (sym q i) (sym s i) g c f)
 
-  answer-with : (a : PollResult) {p : Answered} {d h : Flags} → d ≡ h → p ≡ polled a (g .count) c d
+  answer-with : (a : PollResult) {p : PollRan} {d h : Flags} → d ≡ h → p ≡ polled a (g .count) c d
       → afterOf p (g .regs) (g .list) ≡ answered a g c h
-  answer-with a down q = ap (λ (x : Answered). afterOf x (g .regs) (g .list)) (q ∙ ap (polled a (g .count) c) down)
+  answer-with a down q = ap (λ (x : PollRan). afterOf x (g .regs) (g .list)) (q ∙ ap (polled a (g .count) c) down)
 
-  pub resets : {p : Answered} {d : Flags} → f .reset ≡ true → d ≡ withReset f false → p ≡ polled Reset (g .count) c d → afterOf p (g .regs) (g .list) ≡ pollLogged g c f
+  pub resets : {p : PollRan} {d : Flags} → f .reset ≡ true → d ≡ withReset f false → p ≡ polled Reset (g .count) c d → afterOf p (g .regs) (g .list) ≡ pollLogged g c f
   resets e down q = by-flags e refl refl (answer-with Reset down q)
 
-  pub resumes : {p : Answered} → f .reset ≡ false → f .resume ≡ true → p ≡ polled Resume (g .count) c (withResume f false)
+  pub resumes : {p : PollRan} → f .reset ≡ false → f .resume ≡ true → p ≡ polled Resume (g .count) c (withResume f false)
       → afterOf p (g .regs) (g .list) ≡ pollLogged g c f
   resumes e r q = by-flags e r refl (answer-with Resume refl q)
 
-  pub suspends : {p : Answered} {d : Flags} → f .reset ≡ false → f .resume ≡ false → f .suspend ≡ true → d ≡ withReset f false
+  pub suspends : {p : PollRan} {d : Flags} → f .reset ≡ false → f .resume ≡ false → f .suspend ≡ true → d ≡ withReset f false
       → p ≡ polled Suspend (g .count) c d → afterOf p (g .regs) (g .list) ≡ pollLogged g c f
   suspends e r s down q = by-flags e r s (answer-with Suspend down q)
 

@@ -1,11 +1,10 @@
 -- The steps of `poll` leave what specs/Steps.antt says. Assumes nothing.
 use Prim.Native.Nat.{ℕ, _<_, _≤_}
 use mathlib.Core.Path.{_≡_, refl, sym, ap, subst, _∙_}
-use mathlib.Core.Bool.{Bool, true, false, not, _||_, cond}
+use mathlib.Core.Bool.{Bool, true, false, cond}
 use mathlib.Core.List.{List}
 use native.Mathlib.Omega.{arith}
 use borrow.Author.Tests.{ne-eqb}
-use lib.Dec.{eqb}
 use lib.ListN.{length}
 use Rattle.laws.specs.Words.{bit}
 use Rattle.laws.proofs.Words.{bit-zero}
@@ -18,10 +17,10 @@ use Rattle.control_state.specs.declared.ControlStateEnum.{ControlStateEnum}
 use Rattle.control_state.specs.declared.ControlStateEnum.the-variants.{Accepted}
 use Rattle.record.specs.declared.Flags.{Flags}
 use Rattle.record.specs.declared.Record.{Record}
-use Rattle.record.specs.Record.{recordSound, endpointsIn}
+use Rattle.record.specs.Record.{recordSound, endpointsIn, withEp0}
 use Rattle.round_rules.specs.Cleared.{readyIn, ClearsHighest}
 use Rattle.round_rules.proofs.Cleared.{walk-clears}
-use Rattle.round_rules.specs.Zero.{Round, round, withEp0, sentBy, receivedBy, zeroBy, zeroServed, endpointZero, acceptStep}
+use Rattle.round_rules.specs.Zero.{Round, round, sentBy, receivedBy, zeroBy, zeroServed, endpointZero, acceptStep}
 use Rattle.round_rules.specs.Accepted.{Accepts}
 use Rattle.round_rules.proofs.Accepted.{accepts}
 use Rattle.round_rules.specs.declared.PollResult.the-variants.{Data, Reset, Resume, Suspend}

@@ -17,7 +17,8 @@ use denote.Enum.Declared.{tagOf}
 use types.Run.{OneOf, miss}
 use Rattle.control_state.specs.Control.{withState, withTxLen}
 use Rattle.record.specs.declared.Flags.{Flags}
-use Rattle.round_rules.specs.Zero.{Round, round, setupTaken, restarted, cutShort, receivedBy, sentBy, withEp0, zeroBy, zeroServed, endpointZero, acceptedBy, acceptStep}
+use Rattle.record.specs.Record.{withEp0}
+use Rattle.round_rules.specs.Zero.{Round, round, setupTaken, restarted, cutShort, receivedBy, sentBy, zeroBy, zeroServed, endpointZero, acceptedBy, acceptStep}
 
 module _ (g : Log) (c : ControlState) (f : Flags) where
   -- a Setup packet in Idle

@@ -8,11 +8,11 @@ use Rattle.laws.specs.Words.{bit}
 use Rattle.control_state.specs.declared.ControlState.{ControlState}
 use Rattle.control_state.specs.declared.ControlStateEnum.the-variants.{Idle}
 use Rattle.record.specs.declared.Flags.{Flags}
-use Rattle.round_rules.specs.declared.Stepped.{Stepped}
+use Rattle.round_rules.specs.declared.AfterAccept.{AfterAccept}
 
 -- in Accepted: endpoint 0 is to be named as sent and not for reading ("Ignore RX. This will be addressed in the next poll.", so that its own
 -- flag goes up), Idle follows, and nothing else changes
-pub record Accepts (c : ControlState) (f : Flags) (o : Stepped) : Type 0 where
+pub record Accepts (c : ControlState) (f : Flags) (o : AfterAccept) : Type 0 where
   pub idle : o .«control_state» .state ≡ Idle
   pub remaining : o .«control_state» .«tx_len» ≡ c .«tx_len»
   pub sent : bit (o .irq .«ep_tx») 0 ≡ true

@@ -14,16 +14,16 @@ use Rattle.record.specs.declared.Flags.{Flags}
 use Rattle.record.specs.declared.Admission.{Admission}
 use Rattle.record.specs.declared.Admission.the-variants as admission
 use Rattle.record.specs.declared.Record.{Record}
-use Rattle.record.specs.Record.{endpointsIn, passes, admissionBy, refusalNumber}
+use Rattle.record.specs.Record.{endpointsIn, passes, admissionBy, listNeed, refusalNumber, withReset, withResume, withTx, withRx}
 use Rattle.round_rules.specs.declared.PollResult.{PollResult}
 use Rattle.round_rules.specs.declared.PollResult.the-variants.{None, Data, Reset, Resume, Suspend}
 use Rattle.round_rules.specs.declared.PollAnswer.{PollAnswer}
 use Rattle.round_rules.specs.declared.PollAnswer.the-variants.{Done, Refused}
 use Rattle.round_rules.specs.declared.PollCalled.{PollCalled}
-use Rattle.round_rules.specs.declared.Answered.{Answered}
-use Rattle.round_rules.specs.Zero.{Round, round, withTx, withRx, endpointZero, acceptStep}
+use Rattle.round_rules.specs.declared.PollRan.{PollRan}
+use Rattle.round_rules.specs.Zero.{Round, round, endpointZero, acceptStep}
 use Rattle.round_rules.specs.Walk.{Walk, walked}
-use Rattle.round_rules.specs.Round.{withReset, withResume, told}
+use Rattle.round_rules.specs.Round.{told}
 
 pub record PollOutcome : Type 0 where
   pub result : PollCalled
@@ -46,10 +46,10 @@ abbrev pub answered : PollResult → Log → ControlState → Flags → After
 answered a g c f = after (Done a) g c f
 
 -- what a function of the code gives back, with its registers and its list
-abbrev pub polled : PollResult → ℕ → ControlState → Flags → Answered
+abbrev pub polled : PollResult → ℕ → ControlState → Flags → PollRan
 polled a n c f = record { answer = Done a; n = n; «control_state» = c; irq = f }
 
-abbrev pub afterOf : Answered → File → List ℕ → After
+abbrev pub afterOf : PollRan → File → List ℕ → After
 afterOf o w l = after (o .answer) (log w l (o .n)) (o .«control_state») (o .irq)
 
 -- the record k with what a poll changes of it, and its answer
@@ -96,7 +96,7 @@ pollWhen (admission.Refused x) b g c f = after (Refused x) g c f
 pollWhen admission.Clear b g c f = pollServed b g c f
 
 unfoldable pub pollAdmitted : Board → File → List ℕ → ControlState → Flags → After
-pollAdmitted b w l c f = pollWhen (admissionBy (ltb (length l) 384) (passes b w f) false) b (log w l 0) c f
+pollAdmitted b w l c f = pollWhen (admissionBy (ltb (length l) listNeed) (passes b w f) false) b (log w l 0) c f
 
 unfoldable pub pollCall : Record → List ℕ → PollOutcome
 pollCall k l = outcomeOf k (pollAdmitted (k .regs .board) (k .regs .words) l (k .«control_state») (k .irq))

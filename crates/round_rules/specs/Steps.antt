@@ -1,6 +1,5 @@
 -- What the steps of `poll` leave, beside their definition and apart from it: Reset, Resume, Suspend; a round in Accepted; the walk of a round.
 -- Assumes nothing.
-use Prim.Native.Nat.{ℕ}
 use mathlib.Core.Path.{_≡_}
 use mathlib.Core.Bool.{Bool, true}
 use Rattle.laws.specs.Words.{bit}

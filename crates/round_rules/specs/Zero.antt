@@ -14,17 +14,9 @@ use Rattle.control_state.specs.declared.ControlStateEnum.{ControlStateEnum}
 use Rattle.control_state.specs.declared.ControlStateEnum.the-variants.{Idle, Setup, DataIn, DataOut, Accepted, NodataPhase}
 use Rattle.control_state.specs.Control.{withState, withTxLen}
 use Rattle.record.specs.declared.Flags.{Flags}
+use Rattle.record.specs.Record.{withEp0, withTx, withRx}
 use Rattle.round_rules.specs.declared.Progress.{Progress}
-use Rattle.round_rules.specs.declared.Stepped.{Stepped}
-
-abbrev pub withEp0 : Flags → Bool → Flags
-withEp0 f b = record { reset = f .reset; suspend = f .suspend; resume = f .resume; ep0 = b; «ep_tx» = f .«ep_tx»; «ep_rx» = f .«ep_rx» }
-
-abbrev pub withTx : Flags → ℕ → Flags
-withTx f w = record { reset = f .reset; suspend = f .suspend; resume = f .resume; ep0 = f .ep0; «ep_tx» = w; «ep_rx» = f .«ep_rx» }
-
-abbrev pub withRx : Flags → ℕ → Flags
-withRx f w = record { reset = f .reset; suspend = f .suspend; resume = f .resume; ep0 = f .ep0; «ep_tx» = f .«ep_tx»; «ep_rx» = w }
+use Rattle.round_rules.specs.declared.AfterAccept.{AfterAccept}
 
 -- what the steps of a round change: the log, the control state, the flags, and the source's `setup`
 pub record Round : Type 0 where
@@ -90,7 +82,7 @@ endpointZero g c f = cond (f .ep0) (zeroServed (writeIndex 0 g) c f) (round g c 
 unfoldable pub putBack : Flags → Flags
 putBack f = cond (bit (f .«ep_rx») 0) (withRx (withEp0 f true) (clear (f .«ep_rx») 0)) f
 
-unfoldable pub acceptedBy : ControlStateEnum → ControlState → Flags → Stepped
+unfoldable pub acceptedBy : ControlStateEnum → ControlState → Flags → AfterAccept
 acceptedBy Accepted c f = record { «control_state» = withState c Idle; irq = withTx (putBack f) (raised (putBack f .«ep_tx») 0) }
 acceptedBy Idle c f = record { «control_state» = c; irq = f }
 acceptedBy Setup c f = record { «control_state» = c; irq = f }
@@ -98,5 +90,5 @@ acceptedBy DataIn c f = record { «control_state» = c; irq = f }
 acceptedBy DataOut c f = record { «control_state» = c; irq = f }
 acceptedBy NodataPhase c f = record { «control_state» = c; irq = f }
 
-unfoldable pub acceptStep : ControlState → Flags → Stepped
+unfoldable pub acceptStep : ControlState → Flags → AfterAccept
 acceptStep c f = acceptedBy (c .state) c f

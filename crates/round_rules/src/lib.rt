@@ -20,7 +20,7 @@ pub struct Progress {
 }
 
 // What the Accepted step changes.
-pub struct Stepped {
+pub struct AfterAccept {
     pub control_state: ControlState,
     pub irq: Flags,
 }
@@ -52,7 +52,7 @@ pub struct PollCalled {
 }
 
 // What a poll leaves besides the registers.
-pub struct Answered {
+pub struct PollRan {
     pub answer: PollAnswer,
     pub n: usize,
     pub control_state: ControlState,

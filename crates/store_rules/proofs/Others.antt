@@ -12,7 +12,6 @@ use Rattle.register_file.specs.Registers as file
 use Rattle.register_file.specs.Registers.{File, Whole, withFaddr, withPower, withIndex, withIntrusbe, withEnabled, chosen, withChosen}
 use Rattle.csr.specs.Registers.{withIso, withMaxp, withLen}
 use Rattle.csr.specs.Control.{txStored, rxStored}
-use Rattle.register_file.specs.Control.{csr0lStored, csr0hFlushed}
 use Rattle.register_file.proofs.Sides.{keeps-setupend}
 use Rattle.register_file.proofs.Readings.{selected}
 use Rattle.register_file.specs.Sound.{Clean}

@@ -11,7 +11,6 @@ use Rattle.laws.specs.Words.{raised}
 use Rattle.laws.proofs.Lists.{getD-set}
 use Rattle.board.specs.declared.Direction.{Direction}
 use Rattle.board.specs.declared.Direction.the-variants.{Out, In}
-use Rattle.csr.specs.declared.Side.{Side}
 use Rattle.csr.specs.declared.Csr0l.{Csr0l}
 use Rattle.csr.specs.declared.Csr0lSet.{Csr0lSet}
 use Rattle.csr.specs.declared.TxcsrlSet.{TxcsrlSet}
@@ -23,7 +22,7 @@ use Rattle.register_file.specs.Control.{csr0lStored, csr0hFlushed, csr0lRead, t
 use Rattle.csr.specs.Control.{txStored, rxStored, csr0lSet, txcsrlSet, rxcsrlSet}
 use Rattle.register_file.proofs.Sides.{side-seen, set-keeps, keeps, keeps-length}
 use Rattle.register_file.proofs.AsWritten.{zero-in, zero-out, zero-other, flush-in, flush-out, flush-other, zero-keeps, zero-length, flush-keeps, flush-length}
-use Rattle.store_rules.specs.Stores.{Log, log, noted, writeFaddr, writePower, writeIndex, writeCsr0l, flushCsr0h, writeTxcsrl, writeRxcsrl, writeIso, writeMaxp, writeIntrusbe, writeIntre, writePacket, modifyCsr0l, modifyTxcsrl, modifyRxcsrl, modifyIntre}
+use Rattle.store_rules.specs.Stores.{Log, noted, writeFaddr, writePower, writeIndex, writeCsr0l, flushCsr0h, writeTxcsrl, writeRxcsrl, writeIso, writeMaxp, writeIntrusbe, writeIntre, writePacket, modifyCsr0l, modifyTxcsrl, modifyRxcsrl, modifyIntre}
 use Rattle.store_list.specs.Stores.{FIFO, INDEX, listed}
 use Rattle.store_rules.proofs.Own.{own-seen, own-keeps, own-length}
 use Rattle.store_rules.specs.Promise.{Store, faddr, power, index, csr0l, csr0h, txcsrl, rxcsrl, iso, maxp, intrusbe, intre, packet, does, leaves, writes, selects, addresses, Kept}

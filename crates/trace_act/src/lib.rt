@@ -1,8 +1,8 @@
 // One entry of a trace, carried out: the call or event that it names, and its line of the report.
+use event_rules::BusEvent;
 use host_rules::EventCalled;
 use record::Record;
 use report_rules::Acted;
-use trace_rules::BusEvent;
 use trace_rules::Entry;
 ghost use mathlib.Core.Path.{_≡_};
 ghost use Prim.Native.Nat.{_≤_};
@@ -31,7 +31,7 @@ fn fetch(
     ensures { λ r. ⌜ Acts (now (line .entry)) (now (line .exit)) r (now (fifo .entry)) (now (list .exit)) code (did (state k (now (fifo .entry)) (now (list .entry))) (calls.read ep (now (buf .entry)) (now (fifo .entry)) (now (list .entry)))) ⌝ }
 {
     let o = usb_device_read::read(k, ep, buf, fifo, list);
-    trace_answers::got(line, code, o, buf)
+    trace_answers::fetched(line, code, o, buf)
 }
 
 // A read is lent the first bytes of a buffer of its own.
@@ -90,7 +90,7 @@ pub fn act(
         ),
         Entry::Write(ep, start, n) => {
             let end = start + n;
-            trace_answers::wrote(
+            trace_answers::written(
                 line,
                 code,
                 usb_device_write::write(k, ep, &trace[start..end], fifo, list),

@@ -28,14 +28,14 @@ ghost use Prim.Native.Nat.{_+_, _*_, _≤_, _<_, _^_, min};
 ghost use lib.ListN.{length, take, drop};
 ghost use Rattle.record.specs.Record.{refusalNumber};
 ghost use Rattle.call_rules.specs.Calls.{replyNumber};
-ghost use Rattle.call_rules.specs.Alloc.{allocationNumber, allocationValues};
-ghost use Rattle.call_rules.specs.Stall.{toldNumber, toldValues};
-ghost use Rattle.transfer_rules.specs.WriteZero.{wroteNumber, wroteValues};
-ghost use Rattle.transfer_rules.specs.ReadZero.{gotNumber, gotValues};
+ghost use Rattle.call_rules.specs.Alloc.{allocNumber, allocValues};
+ghost use Rattle.call_rules.specs.Stall.{stalledNumber, stalledValues};
+ghost use Rattle.transfer_rules.specs.WriteZero.{writeNumber, writeValues};
+ghost use Rattle.transfer_rules.specs.ReadZero.{readNumber, readValues};
 ghost use Rattle.round_rules.specs.Poll.{pollNumber, pollValues, resultValues};
 ghost use Rattle.call_rules.specs.Interrupt.{interruptNumber};
-ghost use Rattle.host_rules.specs.Host.{happenedNumber, takenNumber, takenValues, InBuffer};
-ghost use Rattle.report_rules.specs.Shown.{Shows, Gives, wroteFits, gotFits};
+ghost use Rattle.host_rules.specs.Host.{eventNumber, collectNumber, collectValues, InBuffer};
+ghost use Rattle.report_rules.specs.Shown.{Shows, Gives, writeFits, readFits};
 
 fn wide(x: u8) -> u32
     ensures { λ r. ⌜ r ≡ x ⌝ }
@@ -81,14 +81,14 @@ fn show_reply(line: &mut [u8], code: u8, a: Reply) -> usize
     trace_report::reply_line(line, code, usb_device_impl::reply_number(a))
 }
 
-fn show_happened(line: &mut [u8], code: u8, a: EventAnswer) -> usize
+fn show_event(line: &mut [u8], code: u8, a: EventAnswer) -> usize
     requires { ⌜ 100 ≤ length (now line) ⌝ }
-    ensures { λ r. ⌜ Shows (now (line .entry)) (now (line .exit)) r code (happenedNumber a) [] ⌝ }
+    ensures { λ r. ⌜ Shows (now (line .entry)) (now (line .exit)) r code (eventNumber a) [] ⌝ }
 {
     trace_report::reply_line(line, code, host::happened_number(a))
 }
 
-fn show_interrupted(line: &mut [u8], code: u8, a: InterruptAnswer) -> usize
+fn show_interrupt(line: &mut [u8], code: u8, a: InterruptAnswer) -> usize
     requires { ⌜ 100 ≤ length (now line) ⌝ }
     ensures { λ r. ⌜ Shows (now (line .entry)) (now (line .exit)) r code (interruptNumber a) [] ⌝ }
 {
@@ -99,9 +99,9 @@ fn show_interrupted(line: &mut [u8], code: u8, a: InterruptAnswer) -> usize
 }
 
 // "the endpoint"
-fn show_allocation(line: &mut [u8], code: u8, a: AllocAnswer) -> usize
+fn show_alloc(line: &mut [u8], code: u8, a: AllocAnswer) -> usize
     requires { ⌜ 100 ≤ length (now line) ⌝ }
-    ensures { λ r. ⌜ Shows (now (line .entry)) (now (line .exit)) r code (allocationNumber a) (allocationValues a) ⌝ }
+    ensures { λ r. ⌜ Shows (now (line .entry)) (now (line .exit)) r code (allocNumber a) (allocValues a) ⌝ }
 {
     match a {
         AllocAnswer::Done(n) => trace_report::value_line(line, code, 0, wide(n)),
@@ -115,9 +115,9 @@ fn show_allocation(line: &mut [u8], code: u8, a: AllocAnswer) -> usize
 }
 
 // "0 or 1"
-fn show_told(line: &mut [u8], code: u8, a: StalledAnswer) -> usize
+fn show_stalled(line: &mut [u8], code: u8, a: StalledAnswer) -> usize
     requires { ⌜ 100 ≤ length (now line) ⌝ }
-    ensures { λ r. ⌜ Shows (now (line .entry)) (now (line .exit)) r code (toldNumber a) (toldValues a) ⌝ }
+    ensures { λ r. ⌜ Shows (now (line .entry)) (now (line .exit)) r code (stalledNumber a) (stalledValues a) ⌝ }
 {
     match a {
         StalledAnswer::Done(b) => trace_report::value_line(line, code, 0, as_number(b)),
@@ -126,9 +126,9 @@ fn show_told(line: &mut [u8], code: u8, a: StalledAnswer) -> usize
 }
 
 // "written length"
-fn show_wrote(line: &mut [u8], code: u8, a: WriteAnswer) -> usize
-    requires { ⌜ (100 ≤ length (now line)) × wroteFits a ⌝ }
-    ensures { λ r. ⌜ Shows (now (line .entry)) (now (line .exit)) r code (wroteNumber a) (wroteValues a) ⌝ }
+fn show_write(line: &mut [u8], code: u8, a: WriteAnswer) -> usize
+    requires { ⌜ (100 ≤ length (now line)) × writeFits a ⌝ }
+    ensures { λ r. ⌜ Shows (now (line .entry)) (now (line .exit)) r code (writeNumber a) (writeValues a) ⌝ }
 {
     match a {
         WriteAnswer::Done(n) => trace_report::value_line(line, code, 0, n as u32),
@@ -145,9 +145,9 @@ fn show_stored(line: &mut [u8], code: u8, n: usize, buf: &[u8]) -> usize
 }
 
 // "for reads the count then stored bytes", which stand at the front of the read's buffer
-fn show_got(line: &mut [u8], code: u8, a: ReadAnswer, buf: &[u8]) -> usize
-    requires { ⌜ (100 + 4 * length (now buf) ≤ length (now line)) × gotFits a ⌝ }
-    ensures { λ r. ⌜ Shows (now (line .entry)) (now (line .exit)) r code (gotNumber a) (gotValues a (now (buf .entry))) ⌝ }
+fn show_read(line: &mut [u8], code: u8, a: ReadAnswer, buf: &[u8]) -> usize
+    requires { ⌜ (100 + 4 * length (now buf) ≤ length (now line)) × readFits a ⌝ }
+    ensures { λ r. ⌜ Shows (now (line .entry)) (now (line .exit)) r code (readNumber a) (readValues a (now (buf .entry))) ⌝ }
 {
     match a {
         ReadAnswer::Done(n) => show_stored(line, code, n, buf),
@@ -196,9 +196,9 @@ fn show_part(line: &mut [u8], code: u8, start: usize, len: usize, fifo: &[u8]) -
 }
 
 // "for collect the bytes", at the place that the collection gave
-fn show_taken(line: &mut [u8], code: u8, a: CollectAnswer, fifo: &[u8]) -> usize
+fn show_collect(line: &mut [u8], code: u8, a: CollectAnswer, fifo: &[u8]) -> usize
     requires { ⌜ (100 + 4 * length (now fifo) ≤ length (now line)) × InBuffer a (now fifo) ⌝ }
-    ensures { λ r. ⌜ Shows (now (line .entry)) (now (line .exit)) r code (takenNumber a) (takenValues a (now (fifo .entry))) ⌝ }
+    ensures { λ r. ⌜ Shows (now (line .entry)) (now (line .exit)) r code (collectNumber a) (collectValues a (now (fifo .entry))) ⌝ }
 {
     match a {
         CollectAnswer::Done(start, len) => show_part(line, code, start, len, fifo),
@@ -222,11 +222,11 @@ pub fn called(line: &mut [u8], code: u8, o: Called) -> Acted
 
 pub fn allocated(line: &mut [u8], code: u8, o: AllocCalled) -> Acted
     requires { ⌜ 100 ≤ length (now line) ⌝ }
-    ensures { λ r. ⌜ Gives (now (line .entry)) (now (line .exit)) r code (o .«record») 0 (allocationNumber (o .answer)) (allocationValues (o .answer)) ⌝ }
+    ensures { λ r. ⌜ Gives (now (line .entry)) (now (line .exit)) r code (o .«record») 0 (allocNumber (o .answer)) (allocValues (o .answer)) ⌝ }
 {
     let a = o.answer;
     let k = o.record;
-    let len = show_allocation(line, code, a);
+    let len = show_alloc(line, code, a);
     Acted {
         record: k,
         stores: 0,
@@ -236,11 +236,11 @@ pub fn allocated(line: &mut [u8], code: u8, o: AllocCalled) -> Acted
 
 pub fn told(line: &mut [u8], code: u8, o: StalledCalled) -> Acted
     requires { ⌜ 100 ≤ length (now line) ⌝ }
-    ensures { λ r. ⌜ Gives (now (line .entry)) (now (line .exit)) r code (o .«record») (o .stores) (toldNumber (o .answer)) (toldValues (o .answer)) ⌝ }
+    ensures { λ r. ⌜ Gives (now (line .entry)) (now (line .exit)) r code (o .«record») (o .stores) (stalledNumber (o .answer)) (stalledValues (o .answer)) ⌝ }
 {
     let a = o.answer;
     let k = o.record;
-    let len = show_told(line, code, a);
+    let len = show_stalled(line, code, a);
     Acted {
         record: k,
         stores: o.stores,
@@ -248,13 +248,13 @@ pub fn told(line: &mut [u8], code: u8, o: StalledCalled) -> Acted
     }
 }
 
-pub fn wrote(line: &mut [u8], code: u8, o: WriteCalled) -> Acted
-    requires { ⌜ (100 ≤ length (now line)) × wroteFits (o .answer) ⌝ }
-    ensures { λ r. ⌜ Gives (now (line .entry)) (now (line .exit)) r code (o .«record») (o .stores) (wroteNumber (o .answer)) (wroteValues (o .answer)) ⌝ }
+pub fn written(line: &mut [u8], code: u8, o: WriteCalled) -> Acted
+    requires { ⌜ (100 ≤ length (now line)) × writeFits (o .answer) ⌝ }
+    ensures { λ r. ⌜ Gives (now (line .entry)) (now (line .exit)) r code (o .«record») (o .stores) (writeNumber (o .answer)) (writeValues (o .answer)) ⌝ }
 {
     let a = o.answer;
     let k = o.record;
-    let len = show_wrote(line, code, a);
+    let len = show_write(line, code, a);
     Acted {
         record: k,
         stores: o.stores,
@@ -262,13 +262,13 @@ pub fn wrote(line: &mut [u8], code: u8, o: WriteCalled) -> Acted
     }
 }
 
-pub fn got(line: &mut [u8], code: u8, o: ReadCalled, buf: &[u8]) -> Acted
-    requires { ⌜ (100 + 4 * length (now buf) ≤ length (now line)) × gotFits (o .answer) ⌝ }
-    ensures { λ r. ⌜ Gives (now (line .entry)) (now (line .exit)) r code (o .«record») (o .stores) (gotNumber (o .answer)) (gotValues (o .answer) (now (buf .entry))) ⌝ }
+pub fn fetched(line: &mut [u8], code: u8, o: ReadCalled, buf: &[u8]) -> Acted
+    requires { ⌜ (100 + 4 * length (now buf) ≤ length (now line)) × readFits (o .answer) ⌝ }
+    ensures { λ r. ⌜ Gives (now (line .entry)) (now (line .exit)) r code (o .«record») (o .stores) (readNumber (o .answer)) (readValues (o .answer) (now (buf .entry))) ⌝ }
 {
     let a = o.answer;
     let k = o.record;
-    let len = show_got(line, code, a, buf);
+    let len = show_read(line, code, a, buf);
     Acted {
         record: k,
         stores: o.stores,
@@ -296,7 +296,7 @@ pub fn interrupted(line: &mut [u8], code: u8, o: InterruptCalled) -> Acted
 {
     let a = o.answer;
     let k = o.record;
-    let len = show_interrupted(line, code, a);
+    let len = show_interrupt(line, code, a);
     Acted {
         record: k,
         stores: 0,
@@ -306,11 +306,11 @@ pub fn interrupted(line: &mut [u8], code: u8, o: InterruptCalled) -> Acted
 
 pub fn happened(line: &mut [u8], code: u8, o: EventCalled) -> Acted
     requires { ⌜ 100 ≤ length (now line) ⌝ }
-    ensures { λ r. ⌜ Gives (now (line .entry)) (now (line .exit)) r code (o .«record») 0 (happenedNumber (o .answer)) [] ⌝ }
+    ensures { λ r. ⌜ Gives (now (line .entry)) (now (line .exit)) r code (o .«record») 0 (eventNumber (o .answer)) [] ⌝ }
 {
     let a = o.answer;
     let k = o.record;
-    let len = show_happened(line, code, a);
+    let len = show_event(line, code, a);
     Acted {
         record: k,
         stores: 0,
@@ -320,11 +320,11 @@ pub fn happened(line: &mut [u8], code: u8, o: EventCalled) -> Acted
 
 pub fn collected(line: &mut [u8], code: u8, o: CollectCalled, fifo: &[u8]) -> Acted
     requires { ⌜ (100 + 4 * length (now fifo) ≤ length (now line)) × InBuffer (o .answer) (now fifo) ⌝ }
-    ensures { λ r. ⌜ Gives (now (line .entry)) (now (line .exit)) r code (o .«record») 0 (takenNumber (o .answer)) (takenValues (o .answer) (now (fifo .entry))) ⌝ }
+    ensures { λ r. ⌜ Gives (now (line .entry)) (now (line .exit)) r code (o .«record») 0 (collectNumber (o .answer)) (collectValues (o .answer) (now (fifo .entry))) ⌝ }
 {
     let a = o.answer;
     let k = o.record;
-    let len = show_taken(line, code, a, fifo);
+    let len = show_collect(line, code, a, fifo);
     Acted {
         record: k,
         stores: 0,

@@ -2,8 +2,8 @@
 use board::Direction;
 use endpoints::EndpointType;
 use endpoints::Wanted;
+use event_rules::BusEvent;
 use trace_rules::Arg;
-use trace_rules::BusEvent;
 use trace_rules::Held;
 use trace_rules::Number;
 use trace_rules::Two;

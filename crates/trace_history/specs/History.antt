@@ -5,7 +5,6 @@ use Prim.Native.Nat.{ℕ, zero, suc}
 use mathlib.Core.Path.{_≡_}
 use mathlib.Core.List.{List, [], _∷_, _++_, foldl}
 use lib.ListN.{length, take}
-use Rattle.record.specs.declared.Record.{Record}
 use Rattle.calls.specs.Calls.{Op, outcome, step}
 use Rattle.trace_rules.specs.Lines.{line, endLine, badLine}
 use Rattle.trace_rules.specs.declared.Entry.{Entry}

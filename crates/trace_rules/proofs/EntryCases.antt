@@ -12,7 +12,7 @@ use Rattle.trace_rules.specs.Groups.{numberAt}
 use Rattle.board.specs.declared.Direction.{Direction}
 use Rattle.endpoints.specs.declared.EndpointType.{EndpointType}
 use Rattle.endpoints.specs.declared.Wanted.{Wanted}
-use Rattle.trace_rules.specs.declared.BusEvent.{BusEvent}
+use Rattle.event_rules.specs.declared.BusEvent.{BusEvent}
 use Rattle.trace_rules.specs.declared.Arg.{Arg}
 use Rattle.trace_rules.specs.declared.Arg.the-variants.{Got, No}
 use Rattle.trace_rules.specs.declared.Two.{Two}

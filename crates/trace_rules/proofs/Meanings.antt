@@ -6,7 +6,7 @@ use borrow.Author.Tests.{eq-eqb, ne-eqb}
 use Rattle.board.specs.declared.Direction.the-variants.{Out, In}
 use Rattle.endpoints.specs.declared.EndpointType.the-variants.{Control, Isochronous, Bulk, Interrupt}
 use Rattle.endpoints.specs.declared.Wanted.the-variants.{Any, Number as Want}
-use Rattle.trace_rules.specs.declared.BusEvent.the-variants.{Reset, Suspend, Resume}
+use Rattle.event_rules.specs.declared.BusEvent.the-variants.{Reset, Suspend, Resume}
 use Rattle.trace_rules.specs.Arguments.{directionOf, wantedOf, typeOf, busOf}
 
 module _ (n : ℕ) where

@@ -14,8 +14,8 @@ use Rattle.endpoints.specs.declared.EndpointType.{EndpointType}
 use Rattle.endpoints.specs.declared.EndpointType.the-variants.{Control, Isochronous, Bulk, Interrupt}
 use Rattle.endpoints.specs.declared.Wanted.{Wanted}
 use Rattle.endpoints.specs.declared.Wanted.the-variants.{Any, Number as Want}
-use Rattle.trace_rules.specs.declared.BusEvent.{BusEvent}
-use Rattle.trace_rules.specs.declared.BusEvent.the-variants.{Reset, Suspend, Resume}
+use Rattle.event_rules.specs.declared.BusEvent.{BusEvent}
+use Rattle.event_rules.specs.declared.BusEvent.the-variants.{Reset, Suspend, Resume}
 use Rattle.trace_rules.specs.declared.Arg.{Arg}
 use Rattle.trace_rules.specs.declared.Arg.the-variants.{Got, No}
 use Rattle.trace_rules.specs.declared.Two.{Two}

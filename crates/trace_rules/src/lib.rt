@@ -4,17 +4,12 @@
 use board::Direction;
 use endpoints::EndpointType;
 use endpoints::Wanted;
+use event_rules::BusEvent;
 
 // A number with the place after it, or none: cut short, not in the shortest form, or over 65,535.
 pub enum Number {
     Value(u16, usize),
     Bad,
-}
-
-pub enum BusEvent {
-    Reset,
-    Suspend,
-    Resume,
 }
 
 // An argument in its range, with the place after it.

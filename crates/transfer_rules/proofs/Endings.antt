@@ -3,7 +3,6 @@
 use Prim.Native.Nat.{ℕ, _<_}
 use mathlib.Core.Path.{_≡_, ap}
 use mathlib.Core.Bool.{false}
-use mathlib.Core.List.{List}
 use native.Mathlib.Omega.{arith}
 use borrow.Author.Tests.{leb-false}
 use lib.Dec.{leb}
@@ -15,7 +14,7 @@ use Rattle.store_rules.specs.Stores.{Log, writeIndex, modifyCsr0l}
 use Rattle.control_state.specs.declared.ControlState.{ControlState}
 use Rattle.record.specs.declared.Flags.{Flags}
 use Rattle.record.specs.Record.{endpointsIn}
-use Rattle.transfer_rules.specs.Peek.{After, after, blocked, ended}
+use Rattle.transfer_rules.specs.Peek.{after, blocked, ended}
 
 -- an endpoint that is not refused is one of six
 pub below-six : (b : Board) (ep : ℕ) → leb (endpointsIn b) ep ≡ false → ep < 6

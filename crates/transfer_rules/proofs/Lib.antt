@@ -1,5 +1,7 @@
 pub mod Endings
 pub mod Lent
+pub mod WriteCases
+pub mod ReadCases
 pub mod Readings
 pub mod WriteTests
 pub mod WriteZero

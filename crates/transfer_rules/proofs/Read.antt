@@ -29,7 +29,7 @@ use Rattle.transfer_rules.specs.Peek.{rxCount, After, after, blocked}
 use Rattle.transfer_rules.specs.declared.ReadAnswer.the-variants.{Done, Refused}
 use Rattle.transfer_rules.specs.ReadZero.{readZero}
 use Rattle.transfer_rules.specs.ReadTests.{testsIn}
-use Rattle.transfer_rules.specs.Read.{Taken, copied, readOther, got, taken, refused, readBy, readIn}
+use Rattle.transfer_rules.specs.Read.{ReadLeft, copied, readOther, got, readDone, refused, readBy, readIn}
 
 -- a record with these parts
 abbrev pub whole : Board → File → ControlState → Flags → Record
@@ -73,13 +73,13 @@ packet-there b f ep g p q = rw (same-count ep g p) (packet-fits b (g .regs) f ep
 
 -- a packet that is read
 module _ (b : Board) (c : ControlState) (f : Flags) (size ep : ℕ) (x y : List ℕ) (g : Log) {h : Log} (is : h ≡ writeIndex ep g) where
-  abbrev whose : ℕ → List ℕ → After → Taken
+  abbrev whose : ℕ → List ℕ → After → ReadLeft
   whose n z s = record { answer = Done n; buf = z; after = s }
 
-  pub taken-by : {n : ℕ} {z : List ℕ} {s : After} → n ≡ rxCount ep (h .regs) → z ≡ copied b ep n x y → s ≡ got ep z n size c f h
-      → record { answer = Done n; buf = z; after = s } ≡ taken b c f size ep x y g
-  unfolding taken
-  taken-by {n = n} {z = z} count bytes p =
+  pub read-by : {n : ℕ} {z : List ℕ} {s : After} → n ≡ rxCount ep (h .regs) → z ≡ copied b ep n x y → s ≡ got ep z n size c f h
+      → record { answer = Done n; buf = z; after = s } ≡ readDone b c f size ep x y g
+  unfolding readDone
+  read-by {n = n} {z = z} count bytes p =
       ap (whose n z) (p ∙ ap (got ep z n size c f) is)
       ∙ ap (λ (u : List ℕ). whose n u (got ep u n size c f (writeIndex ep g))) bytes
       ∙ ap (λ (m : ℕ). whose m (copied b ep m x y) (got ep (copied b ep m x y) m size c f (writeIndex ep g))) (count ∙ same-count ep g is)
@@ -90,7 +90,7 @@ module _ (b : Board) (w : File) (c : ControlState) (f : Flags) (size ep : ℕ) (
   unfolding readIn
   by u e = ap (λ (v : Verdict). readBy v b c f size ep x y (log w l 0)) (sym e ∙ is)
 
-  pub call-clear : {o : Taken} → v ≡ verdict.Clear → o ≡ taken b c f size ep x y (log w l 0) → o ≡ readIn b w c f size ep x y l
+  pub call-clear : {o : ReadLeft} → v ≡ verdict.Clear → o ≡ readDone b c f size ep x y (log w l 0) → o ≡ readIn b w c f size ep x y l
   call-clear e p = p ∙ by verdict.Clear e
 
   pub call-blocked : {s : After} → v ≡ verdict.Blocked → s ≡ blocked ep c f (log w l 0)

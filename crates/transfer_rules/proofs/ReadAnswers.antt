@@ -18,16 +18,16 @@ use Rattle.transfer_rules.specs.declared.Verdict.{Verdict}
 use Rattle.transfer_rules.specs.declared.Verdict.the-variants as verdict
 use Rattle.transfer_rules.specs.Peek.{rxCount, blocked, verdictNumber}
 use Rattle.transfer_rules.specs.declared.ReadAnswer.the-variants.{Done, Refused}
-use Rattle.transfer_rules.specs.ReadZero.{gotNumber, rxSize}
+use Rattle.transfer_rules.specs.ReadZero.{readNumber, rxSize}
 use Rattle.transfer_rules.specs.ReadTests.{waiting, tests}
-use Rattle.transfer_rules.specs.Read.{ReadOutcome, outcome, taken, refused, readBy, readIn, readCall}
-use Rattle.transfer_rules.specs.ReadReplies.{Given}
+use Rattle.transfer_rules.specs.Read.{ReadOutcome, outcome, readDone, refused, readBy, readIn, readCall}
+use Rattle.transfer_rules.proofs.ReadCases.{ReadCase}
 use Rattle.transfer_rules.proofs.ReadVerdicts.{meets, decides, is-blocked}
 
 -- "returns the packet's length"
-pub taken-done : (b : Board) (c : ControlState) (f : Flags) (size ep : ℕ) (x y : List ℕ) (g : Log) → taken b c f size ep x y g .answer ≡ Done (rxCount ep (g .regs))
-unfolding taken
-taken-done b c f size ep x y g = refl
+pub read-done : (b : Board) (c : ControlState) (f : Flags) (size ep : ℕ) (x y : List ℕ) (g : Log) → readDone b c f size ep x y g .answer ≡ Done (rxCount ep (g .regs))
+unfolding readDone
+read-done b c f size ep x y g = refl
 
 module _ (k : Record) (ep : ℕ) (b f l : List ℕ) where
   -- the call, if its tests came to v
@@ -38,25 +38,25 @@ module _ (k : Record) (ep : ℕ) (b f l : List ℕ) where
   unfolding readCall readIn tests
   by-tests = refl
 
-  answered : (v : Verdict) → gotNumber (tested v .result .answer) ≡ verdictNumber v
-  unfolding taken
+  answered : (v : Verdict) → readNumber (tested v .result .answer) ≡ verdictNumber v
+  unfolding readDone
   answered verdict.Clear = refl
   answered verdict.Blocked = refl
   answered (verdict.Refused x) = refl
 
-  replied : gotNumber (readCall k ep b f l .result .answer) ≡ verdictNumber (tests k ep (length b) (length f) (length l))
-  replied = ap (λ (o : ReadOutcome). gotNumber (o .result .answer)) by-tests ∙ answered (tests k ep (length b) (length f) (length l))
+  replied : readNumber (readCall k ep b f l .result .answer) ≡ verdictNumber (tests k ep (length b) (length f) (length l))
+  replied = ap (λ (o : ReadOutcome). readNumber (o .result .answer)) by-tests ∙ answered (tests k ep (length b) (length f) (length l))
 
-  -- document 01, 'Reply numbers': "Given exactly when"
-  pub exactly : (m : ℕ) → gotNumber (readCall k ep b f l .result .answer) ≡ m ↔ Given k ep (length b) (length f) (length l) m
+  -- document 01, 'Reply numbers': "ReadCase exactly when"
+  pub exactly : (m : ℕ) → readNumber (readCall k ep b f l .result .answer) ≡ m ↔ ReadCase k ep (length b) (length f) (length l) m
   exactly m = (
-    λ e. subst (λ (x : ℕ). Given k ep (length b) (length f) (length l) x) (sym replied ∙ e) (meets k ep (length b) (length f) (length l)),
+    λ e. subst (λ (x : ℕ). ReadCase k ep (length b) (length f) (length l) x) (sym replied ∙ e) (meets k ep (length b) (length f) (length l)),
     λ g. replied ∙ decides k ep (length b) (length f) (length l) g,
   )
 
   -- "0: done, with its value": the packet's length, not what the buffer holds of it
   pub value : (n : ℕ) → readCall k ep b f l .result .answer ≡ Done n → n ≡ waiting k ep
-  unfolding waiting taken
+  unfolding waiting readDone
   value n e = go (tests k ep (length b) (length f) (length l)) (sym (ap (λ (o : ReadOutcome). o .result .answer) by-tests) ∙ e)
     where
       go : (v : Verdict) → tested v .result .answer ≡ Done n → n ≡ waiting k ep
@@ -67,7 +67,7 @@ module _ (k : Record) (ep : ℕ) (b f l : List ℕ) where
   -- "A refusal returns its number and changes nothing: record, FIFOs, list, caller's buffer."
   pub unchanged : (x : Refusal) → readCall k ep b f l .result .answer ≡ Refused x → (x ≡ WouldBlock → ⊥)
       → readCall k ep b f l ≡ record { result = record { answer = Refused x; «record» = k; stores = 0 }; list = l; buf = b }
-  unfolding taken
+  unfolding readDone
   unchanged x e n = by-tests ∙ go (tests k ep (length b) (length f) (length l)) (sym (ap (λ (o : ReadOutcome). o .result .answer) by-tests) ∙ e)
     where
       left : Refusal → ReadOutcome
@@ -79,6 +79,6 @@ module _ (k : Record) (ep : ℕ) (b f l : List ℕ) where
       go (verdict.Refused y) e = let same : y ≡ x = cc in ap left same
 
   -- "The one exception is 6, which has selected the endpoint and listed that store."
-  pub selects : gotNumber (readCall k ep b f l .result .answer) ≡ 6
+  pub selects : readNumber (readCall k ep b f l .result .answer) ≡ 6
       → readCall k ep b f l ≡ outcome k (refused WouldBlock b (blocked ep (k .«control_state») (k .irq) (log (k .regs .words) l 0)))
   selects e = by-tests ∙ ap tested (is-blocked k ep (length b) (length f) (length l) (exactly 6 .0 e) refl)

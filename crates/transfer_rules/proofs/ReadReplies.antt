@@ -2,7 +2,7 @@
 use Prim.Native.Nat.{ℕ, _<_}
 use mathlib.Core.Path.{_≡_, refl, sym, ap, _∙_}
 use mathlib.Core.Logic.{_↔_, _⊎_}
-use mathlib.Core.Bool.{Bool, true, false, not, cond, _||_}
+use mathlib.Core.Bool.{true, false, not, cond, _||_}
 use mathlib.Core.List.{List}
 use native.Mathlib.Omega.{arith}
 use lib.Dec.{leb, ltb, eqb}
@@ -21,9 +21,10 @@ use Rattle.record.specs.Rows.{Replies}
 use Rattle.record.proofs.Rows.{exactly, none-left, tested, tells-not, tells-under, tells-from, tells-is, tells-clear, tells-bad, tells-either, tells-both}
 use Rattle.transfer_rules.specs.ReadTests as read
 use Rattle.transfer_rules.specs.ReadTests.{unreadableIn, notSetupIn}
-use Rattle.transfer_rules.specs.ReadZero.{gotNumber}
+use Rattle.transfer_rules.specs.ReadZero.{readNumber}
 use Rattle.transfer_rules.specs.Read.{readCall}
-use Rattle.transfer_rules.specs.ReadReplies.{Unreadable, Unset, readRows, unready, notReadable, notSetup, Given, done, blocks, beyond, unreadable, unset, little, unsound}
+use Rattle.transfer_rules.specs.ReadReplies.{Unreadable, Unset, readRows}
+use Rattle.transfer_rules.proofs.ReadCases.{nothingWaits, notReadable, notSetup, ReadCase, done, blocks, beyond, unreadable, unset, little, unsound}
 use Rattle.transfer_rules.proofs.ReadAnswers as answers
 
 -- the rows of 12 and 13, state by state
@@ -61,7 +62,7 @@ module _ (k : Record) (ep n f l : ℕ) where
   unfolding short shortIn needOf
   says-short = tells-either (ltb f (needOf k)) (ltb l 384) (tells-under f (needOf k)) (tells-under l 384)
 
-  says-ready : unready k ep ≡ true ↔ sideAt (k .regs .words) ep Out .ready ≡ false
+  says-ready : nothingWaits k ep ≡ true ↔ sideAt (k .regs .words) ep Out .ready ≡ false
   unfolding rxPktRdy
   says-ready = tells-clear (sideAt (k .regs .words) ep Out .ready)
 
@@ -77,14 +78,14 @@ module _ (k : Record) (ep n f l : ℕ) where
 
   -- the first test that holds decides the number
   abbrev decided : ℕ
-  decided = cond (short k f l) 15 (cond (not (recordSound k)) 16 (cond (leb (endpointsOf k) ep) 8 (cond (unready k ep) 6 (cond (notReadable k ep) 12 (cond (notSetup k ep n) 13 0)))))
+  decided = cond (short k f l) 15 (cond (not (recordSound k)) 16 (cond (leb (endpointsOf k) ep) 8 (cond (nothingWaits k ep) 6 (cond (notReadable k ep) 12 (cond (notSetup k ep n) 13 0)))))
 
   by-rows : rows.Given decided (readRows k ep n f l)
   by-rows =
       tested 15 _ _ _ says-short
       (tested 16 _ _ _ (tells-bad k) (tested 8 _ _ _ (tells-from (endpointsOf k) ep) (tested 6 _ _ _ says-ready (tested 12 _ _ _ says-unreadable (tested 13 _ _ _ says-unset none-left)))))
 
-  by-cases : {m : ℕ} → Given k ep n f l m → m ≡ decided
+  by-cases : {m : ℕ} → ReadCase k ep n f l m → m ≡ decided
   by-cases (done a s t u) = rw (a .lent, a .passes, a .there, s, t, u)
   by-cases (blocks a s) = rw (a .lent, a .passes, a .there, s)
   by-cases (beyond p q r) = rw (p, q, r)
@@ -93,9 +94,9 @@ module _ (k : Record) (ep n f l : ℕ) where
   by-cases (little p) = rw p
   by-cases (unsound p q) = rw (p, q)
 
--- document 01, 'Reply numbers': "Given exactly when"
+-- document 01, 'Reply numbers': "ReadCase exactly when"
 pub replies : (k : Record) (ep : ℕ) (b f l : List ℕ)
-    → Replies (gotNumber (readCall k ep b f l .result .answer)) (readRows k ep (length b) (length f) (length l))
+    → Replies (readNumber (readCall k ep b f l .result .answer)) (readRows k ep (length b) (length f) (length l))
 replies k ep b f l =
     exactly (readRows k ep (length b) (length f) (length l))
     (rw (by-cases k ep (length b) (length f) (length l) (answers.exactly k ep b f l _ .0 refl)) (by-rows k ep (length b) (length f) (length l)))

@@ -13,7 +13,7 @@ use Rattle.record.specs.declared.Admission.{Admission}
 use Rattle.record.specs.declared.Admission.the-variants as admission
 use Rattle.record.specs.declared.Flags.{Flags}
 use Rattle.record.specs.declared.Refusal.{Refusal}
-use Rattle.record.specs.declared.Refusal.the-variants.{NotReadable, NotSetup}
+use Rattle.record.specs.declared.Refusal.the-variants.{NotReadable}
 use Rattle.record.specs.Record.{endpointsIn, passes, admissionBy}
 use Rattle.transfer_rules.specs.ReadTests.{notReadable, notSetup, ownTests, ownTestsAt, testsIn}
 

@@ -16,19 +16,19 @@ use Rattle.record.specs.declared.Flags.{Flags}
 use Rattle.record.specs.declared.Record.{Record}
 use Rattle.record.specs.Record.{needIn, needOf, endpointsOf, passes, recordSound, admissionBy}
 use Rattle.transfer_rules.specs.ReadTests.{ownTests, ownTestsAt, testsIn, tests}
-use Rattle.transfer_rules.specs.ReadReplies.{unready, notReadable, notSetup, Given, done, blocks, beyond, unreadable, unset, little, unsound}
+use Rattle.transfer_rules.proofs.ReadCases.{nothingWaits, notReadable, notSetup, ReadCase, done, blocks, beyond, unreadable, unset, little, unsound}
 use Rattle.transfer_rules.proofs.Read.{whole}
 
 module _ (k : Record) (ep n f l : ℕ) where
   -- the six tests, as the rows of the table name them
   pub told : tests k ep n f l
-      ≡ testsBy (admissionBy (short k f l) (recordSound k) (leb (endpointsOf k) ep)) (ownTests (unready k ep) (notReadable k ep) (notSetup k ep n))
+      ≡ testsBy (admissionBy (short k f l) (recordSound k) (leb (endpointsOf k) ep)) (ownTests (nothingWaits k ep) (notReadable k ep) (notSetup k ep n))
   unfolding tests testsIn ownTestsAt short recordSound endpointsOf
   told = refl
 
   -- by the six tests, whatever they say
-  by : (a b c d e g : Bool) → short k f l ≡ a → recordSound k ≡ b → leb (endpointsOf k) ep ≡ c → unready k ep ≡ d → notReadable k ep ≡ e → notSetup k ep n ≡ g
-      → Given k ep n f l (verdictNumber (testsBy (admissionBy a b c) (ownTests d e g)))
+  by : (a b c d e g : Bool) → short k f l ≡ a → recordSound k ≡ b → leb (endpointsOf k) ep ≡ c → nothingWaits k ep ≡ d → notReadable k ep ≡ e → notSetup k ep n ≡ g
+      → ReadCase k ep n f l (verdictNumber (testsBy (admissionBy a b c) (ownTests d e g)))
   by true b c d e g p q r s t u = little p
   by false false c d e g p q r s t u = unsound p q
   by false true true d e g p q r s t u = beyond p q r
@@ -38,11 +38,11 @@ module _ (k : Record) (ep n f l : ℕ) where
   by false true false false false false p q r s t u = done (record { lent = p; passes = q; there = r }) s t u
 
   -- each verdict meets its row
-  pub meets : Given k ep n f l (verdictNumber (tests k ep n f l))
+  pub meets : ReadCase k ep n f l (verdictNumber (tests k ep n f l))
   meets = rw told (by _ _ _ _ _ _ refl refl refl refl refl refl)
 
   -- and a row that is met decides the verdict
-  pub decides : {m : ℕ} → Given k ep n f l m → verdictNumber (tests k ep n f l) ≡ m
+  pub decides : {m : ℕ} → ReadCase k ep n f l m → verdictNumber (tests k ep n f l) ≡ m
   decides (done a s t u) = ap verdictNumber told ∙ rw (a .lent, a .passes, a .there, s, t, u)
   decides (blocks a s) = ap verdictNumber told ∙ rw (a .lent, a .passes, a .there, s)
   decides (beyond p q r) = ap verdictNumber told ∙ rw (p, q, r)
@@ -52,7 +52,7 @@ module _ (k : Record) (ep n f l : ℕ) where
   decides (unsound p q) = ap verdictNumber told ∙ rw (p, q)
 
   -- enough is lent
-  room : {m : ℕ} → Given k ep n f l m → m ≡ 0 → (recordSound k ≡ true) × (needOf k ≤ f) × (384 ≤ l)
+  room : {m : ℕ} → ReadCase k ep n f l m → m ≡ 0 → (recordSound k ≡ true) × (needOf k ≤ f) × (384 ≤ l)
   room (done a s t u) e = let q = lent-enough k f l (a .lent) in (a .passes, q .0, q .1)
   room (blocks a s) e = absurd (omega arith)
   room (beyond p q r) e = absurd (omega arith)
@@ -61,7 +61,7 @@ module _ (k : Record) (ep n f l : ℕ) where
   room (little p) e = absurd (omega arith)
   room (unsound p q) e = absurd (omega arith)
 
-  listed : {m : ℕ} → Given k ep n f l m → m ≡ 6 → 384 ≤ l
+  listed : {m : ℕ} → ReadCase k ep n f l m → m ≡ 6 → 384 ≤ l
   listed (blocks a s) e = lent-enough k f l (a .lent) .1
   listed (done a s t u) e = absurd (omega arith)
   listed (beyond p q r) e = absurd (omega arith)
@@ -70,7 +70,7 @@ module _ (k : Record) (ep n f l : ℕ) where
   listed (little p) e = absurd (omega arith)
   listed (unsound p q) e = absurd (omega arith)
 
-  pub is-blocked : {m : ℕ} → Given k ep n f l m → m ≡ 6 → tests k ep n f l ≡ Blocked
+  pub is-blocked : {m : ℕ} → ReadCase k ep n f l m → m ≡ 6 → tests k ep n f l ≡ Blocked
   is-blocked (blocks a s) e = told ∙ rw (a .lent, a .passes, a .there, s)
   is-blocked (done a s t u) e = absurd (omega arith)
   is-blocked (beyond p q r) e = absurd (omega arith)

@@ -26,7 +26,7 @@ use Rattle.transfer_rules.specs.ReadZero.{wLength, wayIn, setUp, zeroBy,
 use Rattle.transfer_rules.specs.Read as read
 use Rattle.transfer_rules.specs.WriteZero.{accepted, sentZero}
 use Rattle.transfer_rules.specs.Write as write
-use Rattle.transfer_rules.specs.Setup.{StoresZero, NoData, Ends, SetsUp, Accepts}
+use Rattle.transfer_rules.specs.Setup.{StoresZero, NoData, SetsUp, Accepts}
 
 -- the two stores
 serviced : (g : Log) → StoresZero false true g (modifyCsr0l csr0l.ServicedRxPktRdy g)
@@ -109,17 +109,17 @@ module _ (b : List ℕ) (c : ControlState) (f : Flags) (g : Log) (byte : getD b 
       subst (λ (s : ControlStateEnum). SetsUp b c f g (zeroBy s b n size c f (modifyCsr0l csr0l.ServicedRxPktRdy g))) (sym e) set-up
 
 -- a read at endpoint 0 in Setup, whose tests let it through: the bytes are those that it put into the caller's buffer
-pub sets-up : (b : Board) (c : ControlState) (f : Flags) (size : ℕ) (x y : List ℕ) (g : Log) → c .state ≡ Setup → getD (read.taken b c f size 0 x y g .buf) 0 0 < 256
-    → SetsUp (read.taken b c f size 0 x y g .buf) c f (writeIndex 0 g) (read.taken b c f size 0 x y g .after)
-unfolding read.taken read.got
+pub sets-up : (b : Board) (c : ControlState) (f : Flags) (size : ℕ) (x y : List ℕ) (g : Log) → c .state ≡ Setup → getD (read.readDone b c f size 0 x y g .buf) 0 0 < 256
+    → SetsUp (read.readDone b c f size 0 x y g .buf) c f (writeIndex 0 g) (read.readDone b c f size 0 x y g .after)
+unfolding read.readDone read.got
 sets-up b c f size x y g e h = read-zero _ c f (writeIndex 0 g) h _ size e
 
 -- an empty write at endpoint 0 in Idle
 idle-written : (t : ℕ) (c : ControlState) (f : Flags) (g : Log) → c .state ≡ Idle → sentZero (c .state) 0 t c f g ≡ accepted c f g
 idle-written t c f g e = rw e
 
-pub accepts : (b : Board) (c : ControlState) (f : Flags) (t : ℕ) (x : List ℕ) (g : Log) → c .state ≡ Idle → Accepts c f x g (write.taken b c f t 0 [] x g)
-unfolding write.taken write.sent write.loaded writePacket accepted
+pub accepts : (b : Board) (c : ControlState) (f : Flags) (t : ℕ) (x : List ℕ) (g : Log) → c .state ≡ Idle → Accepts c f x g (write.writeDone b c f t 0 [] x g)
+unfolding write.writeDone write.sent write.loaded writePacket accepted
 accepts b c f t x g e =
     let p = idle-written t c f (writeIndex 0 g) e in
     record {

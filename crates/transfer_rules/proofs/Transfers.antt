@@ -43,18 +43,18 @@ use Rattle.transfer_rules.specs.declared.WriteAnswer.the-variants as wro
 use Rattle.transfer_rules.specs.declared.ReadAnswer.the-variants as got-answer
 use Rattle.transfer_rules.specs.Peek.{txPktRdy, rxCount, after}
 use Rattle.transfer_rules.specs.WriteTests as write-tests
-use Rattle.transfer_rules.specs.WriteZero.{wroteNumber}
+use Rattle.transfer_rules.specs.WriteZero.{writeNumber}
 use Rattle.transfer_rules.specs.Write as write
 use Rattle.transfer_rules.specs.Write.{WriteOutcome, loaded, sentOther, sent, writeCall}
-use Rattle.transfer_rules.specs.WriteReplies as write-rows
+use Rattle.transfer_rules.proofs.WriteCases as write-cases
 use Rattle.transfer_rules.specs.ReadTests as read-tests
-use Rattle.transfer_rules.specs.ReadZero.{gotNumber}
+use Rattle.transfer_rules.specs.ReadZero.{readNumber}
 use Rattle.transfer_rules.specs.Read as read
 use Rattle.transfer_rules.specs.Read.{ReadOutcome, copied, readOther, got, readCall}
-use Rattle.transfer_rules.specs.ReadReplies as read-rows
+use Rattle.transfer_rules.proofs.ReadCases as read-cases
 use Rattle.transfer_rules.specs.Transfers.{sendValue, takeValue, writeList, writeCount, Writes, Takes, Copies}
 use Rattle.transfer_rules.proofs.Endings.{below-six}
-use Rattle.transfer_rules.proofs.Lent.{lent-enough}
+use Rattle.transfer_rules.proofs.Lent.{lent-enough, Admitted}
 use Rattle.transfer_rules.proofs.WriteVerdicts as write-verdicts
 use Rattle.transfer_rules.proofs.WriteAnswers as write-answers
 use Rattle.transfer_rules.proofs.ReadVerdicts as read-verdicts
@@ -102,26 +102,26 @@ module _ (k : Record) (e : ℕ) (bytes x l : List ℕ) where
   n = length bytes
 
   pub record Passed : Type 0 where
-    pub admitted : write-rows.Admitted k e (length x) (length l)
-    pub unready : write-rows.unready k e ≡ false
-    pub fits : write-rows.tooLong k e n ≡ false
+    pub admitted : Admitted k e (length x) (length l)
+    pub uncollected : write-cases.uncollected k e ≡ false
+    pub fits : write-cases.tooLong k e n ≡ false
     pub clear : write-tests.tests k e n (length x) (length l) ≡ Clear
 
-  passed-by : {m : ℕ} → write-rows.Given k e n (length x) (length l) m → m ≡ 0 → Passed
-  passed-by (write-rows.done a s t u) z = record {
+  passed-by : {m : ℕ} → write-cases.WriteCase k e n (length x) (length l) m → m ≡ 0 → Passed
+  passed-by (write-cases.done a s t u) z = record {
     admitted = a;
-    unready = s;
+    uncollected = s;
     fits = t;
     clear = write-verdicts.tests-are k e n (length x) (length l) ∙ rw (a .lent, a .passes, a .there, s, t, u);
   }
-  passed-by (write-rows.blocks a s) z = absurd (omega arith)
-  passed-by (write-rows.beyond p q r) z = absurd (omega arith)
-  passed-by (write-rows.long a s t) z = absurd (omega arith)
-  passed-by (write-rows.untaken a s t u) z = absurd (omega arith)
-  passed-by (write-rows.little p) z = absurd (omega arith)
-  passed-by (write-rows.unsound p q) z = absurd (omega arith)
+  passed-by (write-cases.blocks a s) z = absurd (omega arith)
+  passed-by (write-cases.beyond p q r) z = absurd (omega arith)
+  passed-by (write-cases.long a s t) z = absurd (omega arith)
+  passed-by (write-cases.untaken a s t u) z = absurd (omega arith)
+  passed-by (write-cases.little p) z = absurd (omega arith)
+  passed-by (write-cases.unsound p q) z = absurd (omega arith)
 
-  module _ (done : wroteNumber (whose .result .answer) ≡ 0) where
+  module _ (done : writeNumber (whose .result .answer) ≡ 0) where
     passed : Passed
     passed = passed-by (write-answers.exactly k e bytes x l 0 .0 done) refl
 
@@ -136,7 +136,7 @@ module _ (k : Record) (e : ℕ) (bytes x l : List ℕ) where
     room = omega (arith, area-within k e In, lent-enough k (length x) (length l) (passed .admitted .lent) .0)
 
     pasted-there : whose .fifo ≡ pasted x (areaOf k e In .start) bytes
-    unfolding write.taken areaOf
+    unfolding write.writeDone areaOf
     pasted-there = ap (λ (o : WriteOutcome). o .fifo) call-done
 
     -- at any endpoint
@@ -152,10 +152,10 @@ module _ (k : Record) (e : ℕ) (bytes x l : List ℕ) where
       before = sideAt (k .regs .words) e In
 
       abbrev leaves : Log → WriteOutcome
-      leaves h = write.outcome k (write.ran (wrote.Done n) (pasted x (areaIn (k .regs .board) e In .start) bytes) (after (k .«control_state») (k .irq) h))
+      leaves h = write.outcome k (write.writeLeft (wrote.Done n) (pasted x (areaIn (k .regs .board) e In .start) bytes) (after (k .«control_state») (k .irq) h))
 
       call-other : whose ≡ leaves (modifyTxcsrl TxPktRdy (writePacket n (writeIndex e g)))
-      unfolding write.taken sent sentOther loaded
+      unfolding write.writeDone sent sentOther loaded
       call-other = call-done ∙ rw (ne-eqb e 0 up)
 
       low : e < 6
@@ -164,7 +164,7 @@ module _ (k : Record) (e : ℕ) (bytes x l : List ℕ) where
 
       not-ready : before .ready ≡ false
       unfolding txPktRdy
-      not-ready = passed .unready
+      not-ready = passed .uncollected
 
       empty : before .len ≡ 0
       empty = record-is-sound k (passed .admitted .passes) .regs .side e In .none not-ready
@@ -214,22 +214,22 @@ module _ (k : Record) (e : ℕ) (buf x l : List ℕ) where
   len = sideAt (k .regs .words) e Out .len
 
   pub record Readable : Type 0 where
-    pub admitted : read-rows.Admitted k e (length x) (length l)
+    pub admitted : Admitted k e (length x) (length l)
     pub clear : read-tests.tests k e (length buf) (length x) (length l) ≡ Clear
 
-  readable-by : {m : ℕ} → read-rows.Given k e (length buf) (length x) (length l) m → m ≡ 0 → Readable
-  readable-by (read-rows.done a s t u) z = record {
+  readable-by : {m : ℕ} → read-cases.ReadCase k e (length buf) (length x) (length l) m → m ≡ 0 → Readable
+  readable-by (read-cases.done a s t u) z = record {
     admitted = a;
     clear = read-verdicts.told k e (length buf) (length x) (length l) ∙ rw (a .lent, a .passes, a .there, s, t, u);
   }
-  readable-by (read-rows.blocks a s) z = absurd (omega arith)
-  readable-by (read-rows.beyond p q r) z = absurd (omega arith)
-  readable-by (read-rows.unreadable a s t) z = absurd (omega arith)
-  readable-by (read-rows.unset a s t u) z = absurd (omega arith)
-  readable-by (read-rows.little p) z = absurd (omega arith)
-  readable-by (read-rows.unsound p q) z = absurd (omega arith)
+  readable-by (read-cases.blocks a s) z = absurd (omega arith)
+  readable-by (read-cases.beyond p q r) z = absurd (omega arith)
+  readable-by (read-cases.unreadable a s t) z = absurd (omega arith)
+  readable-by (read-cases.unset a s t u) z = absurd (omega arith)
+  readable-by (read-cases.little p) z = absurd (omega arith)
+  readable-by (read-cases.unsound p q) z = absurd (omega arith)
 
-  module _ (done : gotNumber (reading .result .answer) ≡ 0) where
+  module _ (done : readNumber (reading .result .answer) ≡ 0) where
     readable : Readable
     readable = readable-by (read-answers.exactly k e buf x l 0 .0 done) refl
 
@@ -253,7 +253,7 @@ module _ (k : Record) (e : ℕ) (buf x l : List ℕ) where
     part-length = length-take-le (min len (length buf)) (drop (areaOf k e Out .start) x) part-there
 
     copied-there : reading .buf ≡ pasted buf 0 part
-    unfolding read.taken copied areaOf rxCount
+    unfolding read.readDone copied areaOf rxCount
     copied-there = ap (λ (o : ReadOutcome). o .buf) read-done
 
     copied-inside : (i : ℕ) → i < len → i < length buf → getD (reading .buf) i 0 ≡ getD x (areaOf k e Out .start + i) 0
@@ -293,7 +293,7 @@ module _ (k : Record) (e : ℕ) (buf x l : List ℕ) where
       gives h = read.outcome k (record { answer = got-answer.Done count; buf = copied (k .regs .board) e count buf x; after = after (k .«control_state») (k .irq) h })
 
       read-other : reading ≡ gives (modifyRxcsrl NoRxPktRdy (writeIndex e from))
-      unfolding read.taken got readOther
+      unfolding read.readDone got readOther
       read-other = read-done ∙ rw (ne-eqb e 0 up)
 
       below : e < 6

@@ -24,7 +24,7 @@ use Rattle.transfer_rules.specs.Peek.{After, after, blocked}
 use Rattle.transfer_rules.specs.WriteTests.{testsIn}
 use Rattle.transfer_rules.specs.declared.WriteAnswer.the-variants.{Done, Refused}
 use Rattle.transfer_rules.specs.WriteZero.{txSizeIn, txSize, sentZero}
-use Rattle.transfer_rules.specs.Write.{Ran, ran, outcome, loaded, sentOther, sent, taken, writeBy, writeIn, writeCall}
+use Rattle.transfer_rules.specs.Write.{WriteLeft, writeLeft, outcome, loaded, sentOther, sent, writeDone, writeBy, writeIn, writeCall}
 
 -- the packet's bytes
 pub loaded-by : (ep n : ℕ) (g : Log) {a o : Log} → a ≡ writeIndex ep g → o ≡ writePacket n a → o ≡ loaded ep n g
@@ -64,24 +64,24 @@ module _ (b : Board) (w : File) (c : ControlState) (f : Flags) (t ep : ℕ) (byt
   unfolding writeIn
   by u e = ap (λ (v : Verdict). writeBy v b c f t ep bytes x (log w l 0)) (sym e ∙ is)
 
-  taken-by : {s : After} {y : List ℕ} → s ≡ sent ep (length bytes) t c f (loaded ep (length bytes) (log w l 0))
-      → y ≡ pasted x (areaIn b ep In .start) bytes → ran (Done (length bytes)) y s ≡ taken b c f t ep bytes x (log w l 0)
-  unfolding taken
-  taken-by {s = s} p q =
-      ap (λ (y : List ℕ). ran (Done (length bytes)) y s) q ∙ ap (ran (Done (length bytes)) (pasted x (areaIn b ep In .start) bytes)) p
+  written-by : {s : After} {y : List ℕ} → s ≡ sent ep (length bytes) t c f (loaded ep (length bytes) (log w l 0))
+      → y ≡ pasted x (areaIn b ep In .start) bytes → writeLeft (Done (length bytes)) y s ≡ writeDone b c f t ep bytes x (log w l 0)
+  unfolding writeDone
+  written-by {s = s} p q =
+      ap (λ (y : List ℕ). writeLeft (Done (length bytes)) y s) q ∙ ap (writeLeft (Done (length bytes)) (pasted x (areaIn b ep In .start) bytes)) p
 
   pub call-clear : {s : After} {y : List ℕ} → v ≡ verdict.Clear → s ≡ sent ep (length bytes) t c f (loaded ep (length bytes) (log w l 0))
-      → y ≡ pasted x (areaIn b ep In .start) bytes → ran (Done (length bytes)) y s ≡ writeIn b w c f t ep bytes x l
-  call-clear e p q = taken-by p q ∙ by verdict.Clear e
+      → y ≡ pasted x (areaIn b ep In .start) bytes → writeLeft (Done (length bytes)) y s ≡ writeIn b w c f t ep bytes x l
+  call-clear e p q = written-by p q ∙ by verdict.Clear e
 
-  pub call-blocked : {s : After} → v ≡ verdict.Blocked → s ≡ blocked ep c f (log w l 0) → ran (Refused WouldBlock) x s ≡ writeIn b w c f t ep bytes x l
-  call-blocked e p = ap (ran (Refused WouldBlock) x) p ∙ by verdict.Blocked e
+  pub call-blocked : {s : After} → v ≡ verdict.Blocked → s ≡ blocked ep c f (log w l 0) → writeLeft (Refused WouldBlock) x s ≡ writeIn b w c f t ep bytes x l
+  call-blocked e p = ap (writeLeft (Refused WouldBlock) x) p ∙ by verdict.Blocked e
 
-  pub call-refused : {y : Refusal} → v ≡ verdict.Refused y → ran (Refused y) x (after c f (log w l 0)) ≡ writeIn b w c f t ep bytes x l
+  pub call-refused : {y : Refusal} → v ≡ verdict.Refused y → writeLeft (Refused y) x (after c f (log w l 0)) ≡ writeIn b w c f t ep bytes x l
   call-refused {y} e = by (verdict.Refused y) e
 
 -- and with the record
-pub call-whole : (k : Record) (ep : ℕ) (bytes x l : List ℕ) {t : ℕ} {o : Ran} → t ≡ txSizeIn (k .endpoints)
+pub call-whole : (k : Record) (ep : ℕ) (bytes x l : List ℕ) {t : ℕ} {o : WriteLeft} → t ≡ txSizeIn (k .endpoints)
     → o ≡ writeIn (k .regs .board) (k .regs .words) (k .«control_state») (k .irq) t ep bytes x l → outcome k o ≡ writeCall k ep bytes x l
 unfolding writeCall txSize
 call-whole k ep bytes x l p q =

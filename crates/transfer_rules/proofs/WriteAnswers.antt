@@ -19,21 +19,21 @@ use Rattle.transfer_rules.specs.declared.Verdict.the-variants as verdict
 use Rattle.transfer_rules.specs.Peek.{verdictNumber}
 use Rattle.transfer_rules.specs.WriteTests.{tests}
 use Rattle.transfer_rules.specs.declared.WriteAnswer.the-variants.{Done, Refused}
-use Rattle.transfer_rules.specs.WriteZero.{wroteNumber, txSize}
-use Rattle.transfer_rules.specs.Write.{Ran, WriteOutcome, outcome, refused, blockedCall, taken, writeBy, writeIn, writeCall}
-use Rattle.transfer_rules.specs.WriteReplies.{Given}
+use Rattle.transfer_rules.specs.WriteZero.{writeNumber, txSize}
+use Rattle.transfer_rules.specs.Write.{WriteLeft, WriteOutcome, outcome, refused, blockedCall, writeDone, writeBy, writeIn, writeCall}
+use Rattle.transfer_rules.proofs.WriteCases.{WriteCase}
 use Rattle.transfer_rules.proofs.WriteVerdicts.{meets, decides, is-blocked}
 
--- a packet that is taken is done, at whatever endpoint and in whatever state
-pub taken-done : (b : Board) (c : ControlState) (f : Flags) (t ep : ℕ) (bytes x : List ℕ) (g : Log) → taken b c f t ep bytes x g .answer ≡ Done (length bytes)
-unfolding taken
-taken-done b c f t ep bytes x g = refl
+-- a packet that is writeDone is done, at whatever endpoint and in whatever state
+pub write-done : (b : Board) (c : ControlState) (f : Flags) (t ep : ℕ) (bytes x : List ℕ) (g : Log) → writeDone b c f t ep bytes x g .answer ≡ Done (length bytes)
+unfolding writeDone
+write-done b c f t ep bytes x g = refl
 
 module _ (k : Record) (ep : ℕ) (b f l : List ℕ) where
   abbrev verdict-of : Verdict
   verdict-of = tests k ep (length b) (length f) (length l)
 
-  abbrev pub ran-by : Verdict → Ran
+  abbrev pub ran-by : Verdict → WriteLeft
   ran-by v = writeBy v (k .regs .board) (k .«control_state») (k .irq) (txSize k) ep b f (log (k .regs .words) l 0)
 
   -- the call, by what the tests come to
@@ -41,18 +41,18 @@ module _ (k : Record) (ep : ℕ) (b f l : List ℕ) where
   unfolding writeCall writeIn tests
   call-is = refl
 
-  answered : (v : Verdict) → wroteNumber (ran-by v .answer) ≡ verdictNumber v
-  answered verdict.Clear = ap wroteNumber (taken-done (k .regs .board) (k .«control_state») (k .irq) (txSize k) ep b f (log (k .regs .words) l 0))
+  answered : (v : Verdict) → writeNumber (ran-by v .answer) ≡ verdictNumber v
+  answered verdict.Clear = ap writeNumber (write-done (k .regs .board) (k .«control_state») (k .irq) (txSize k) ep b f (log (k .regs .words) l 0))
   answered verdict.Blocked = refl
   answered (verdict.Refused x) = refl
 
-  number : wroteNumber (writeCall k ep b f l .result .answer) ≡ verdictNumber verdict-of
-  number = ap (λ (o : WriteOutcome). wroteNumber (o .result .answer)) call-is ∙ answered verdict-of
+  number : writeNumber (writeCall k ep b f l .result .answer) ≡ verdictNumber verdict-of
+  number = ap (λ (o : WriteOutcome). writeNumber (o .result .answer)) call-is ∙ answered verdict-of
 
-  -- document 01, 'Reply numbers': "Given exactly when"
-  pub exactly : (m : ℕ) → wroteNumber (writeCall k ep b f l .result .answer) ≡ m ↔ Given k ep (length b) (length f) (length l) m
+  -- document 01, 'Reply numbers': "WriteCase exactly when"
+  pub exactly : (m : ℕ) → writeNumber (writeCall k ep b f l .result .answer) ≡ m ↔ WriteCase k ep (length b) (length f) (length l) m
   exactly m = (
-    λ e. subst (λ (x : ℕ). Given k ep (length b) (length f) (length l) x) (sym number ∙ e) (meets k ep (length b) (length f) (length l)),
+    λ e. subst (λ (x : ℕ). WriteCase k ep (length b) (length f) (length l) x) (sym number ∙ e) (meets k ep (length b) (length f) (length l)),
     λ g. number ∙ decides k ep (length b) (length f) (length l) g,
   )
 
@@ -61,7 +61,7 @@ module _ (k : Record) (ep : ℕ) (b f l : List ℕ) where
   value n e = go verdict-of (sym (ap (λ (o : WriteOutcome). o .result .answer) call-is) ∙ e)
     where
       go : (v : Verdict) → ran-by v .answer ≡ Done n → n ≡ length b
-      go verdict.Clear e = let d = taken-done (k .regs .board) (k .«control_state») (k .irq) (txSize k) ep b f (log (k .regs .words) l 0) in cc
+      go verdict.Clear e = let d = write-done (k .regs .board) (k .«control_state») (k .irq) (txSize k) ep b f (log (k .regs .words) l 0) in cc
       go verdict.Blocked e = let z : _≡_ {A = ℕ} 0 1 = cc in absurd (omega arith)
       go (verdict.Refused x) e = let z : _≡_ {A = ℕ} 0 1 = cc in absurd (omega arith)
 
@@ -71,12 +71,12 @@ module _ (k : Record) (ep : ℕ) (b f l : List ℕ) where
     where
       go : (v : Verdict) → ran-by v .answer ≡ Refused x → outcome k (ran-by v) ≡ refused x k f l
       go verdict.Clear e =
-          let d = taken-done (k .regs .board) (k .«control_state») (k .irq) (txSize k) ep b f (log (k .regs .words) l 0) in
+          let d = write-done (k .regs .board) (k .«control_state») (k .irq) (txSize k) ep b f (log (k .regs .words) l 0) in
           let z : _≡_ {A = ℕ} 0 1 = cc in absurd (omega arith)
       go verdict.Blocked e = absurd (n (cc))
       go (verdict.Refused y) e = let same : y ≡ x = cc in ap (λ (z : Refusal). refused z k f l) same
 
   -- "The one exception is 6, which has selected the endpoint and listed that store."
-  pub selects : wroteNumber (writeCall k ep b f l .result .answer) ≡ 6 → writeCall k ep b f l ≡ blockedCall k ep f l
+  pub selects : writeNumber (writeCall k ep b f l .result .answer) ≡ 6 → writeCall k ep b f l ≡ blockedCall k ep f l
   selects e =
       call-is ∙ ap (λ (v : Verdict). outcome k (ran-by v)) (is-blocked k ep (length b) (length f) (length l) (exactly 6 .0 e) refl)

@@ -2,7 +2,7 @@
 use Prim.Native.Nat.{ℕ, _<_}
 use mathlib.Core.Path.{_≡_, refl, sym, ap, _∙_}
 use mathlib.Core.Logic.{_↔_, _⊎_, inl, inr}
-use mathlib.Core.Bool.{Bool, true, not, cond}
+use mathlib.Core.Bool.{true, not, cond}
 use mathlib.Core.List.{List}
 use native.Mathlib.Omega.{arith}
 use borrow.Author.Tests.{eqb-false, ne-eqb, not-true}
@@ -21,9 +21,10 @@ use Rattle.record.specs.Rows.{Replies}
 use Rattle.record.proofs.Rows.{exactly, none-left, tested, tells-under, tells-from, tells-is, tells-set, tells-bad, tells-either, tells-both}
 use Rattle.transfer_rules.specs.WriteTests as write
 use Rattle.transfer_rules.specs.WriteTests.{untakenIn}
-use Rattle.transfer_rules.specs.WriteZero.{wroteNumber}
+use Rattle.transfer_rules.specs.WriteZero.{writeNumber}
 use Rattle.transfer_rules.specs.Write.{writeCall}
-use Rattle.transfer_rules.specs.WriteReplies.{Untaken, writeRows, unready, tooLong, notWritable, Given, done, blocks, beyond, long, untaken, little, unsound}
+use Rattle.transfer_rules.specs.WriteReplies.{Untaken, writeRows}
+use Rattle.transfer_rules.proofs.WriteCases.{uncollected, tooLong, notWritable, WriteCase, done, blocks, beyond, long, untaken, little, unsound}
 use Rattle.transfer_rules.proofs.WriteAnswers as answers
 
 -- the row of 11, state by state
@@ -54,7 +55,7 @@ module _ (k : Record) (ep n f l : ℕ) where
   unfolding short shortIn needOf
   says-short = tells-either (ltb f (needOf k)) (ltb l 384) (tells-under f (needOf k)) (tells-under l 384)
 
-  says-ready : unready k ep ≡ true ↔ sideAt (k .regs .words) ep In .ready ≡ true
+  says-ready : uncollected k ep ≡ true ↔ sideAt (k .regs .words) ep In .ready ≡ true
   unfolding txPktRdy
   says-ready = tells-set (sideAt (k .regs .words) ep In .ready)
 
@@ -68,14 +69,14 @@ module _ (k : Record) (ep n f l : ℕ) where
 
   -- the first test that holds decides the number
   abbrev decided : ℕ
-  decided = cond (short k f l) 15 (cond (not (recordSound k)) 16 (cond (leb (endpointsOf k) ep) 8 (cond (unready k ep) 6 (cond (tooLong k ep n) 9 (cond (notWritable k ep n) 11 0)))))
+  decided = cond (short k f l) 15 (cond (not (recordSound k)) 16 (cond (leb (endpointsOf k) ep) 8 (cond (uncollected k ep) 6 (cond (tooLong k ep n) 9 (cond (notWritable k ep n) 11 0)))))
 
   by-rows : rows.Given decided (writeRows k ep n f l)
   by-rows =
       tested 15 _ _ _ says-short
       (tested 16 _ _ _ (tells-bad k) (tested 8 _ _ _ (tells-from (endpointsOf k) ep) (tested 6 _ _ _ says-ready (tested 9 _ _ _ says-long (tested 11 _ _ _ says-untaken none-left)))))
 
-  by-cases : {m : ℕ} → Given k ep n f l m → m ≡ decided
+  by-cases : {m : ℕ} → WriteCase k ep n f l m → m ≡ decided
   by-cases (done a s t u) = rw (a .lent, a .passes, a .there, s, t, u)
   by-cases (blocks a s) = rw (a .lent, a .passes, a .there, s)
   by-cases (beyond p q r) = rw (p, q, r)
@@ -84,9 +85,9 @@ module _ (k : Record) (ep n f l : ℕ) where
   by-cases (little p) = rw p
   by-cases (unsound p q) = rw (p, q)
 
--- document 01, 'Reply numbers': "Given exactly when"
+-- document 01, 'Reply numbers': "WriteCase exactly when"
 pub replies : (k : Record) (ep : ℕ) (b f l : List ℕ)
-    → Replies (wroteNumber (writeCall k ep b f l .result .answer)) (writeRows k ep (length b) (length f) (length l))
+    → Replies (writeNumber (writeCall k ep b f l .result .answer)) (writeRows k ep (length b) (length f) (length l))
 replies k ep b f l =
     exactly (writeRows k ep (length b) (length f) (length l))
     (rw (by-cases k ep (length b) (length f) (length l) (answers.exactly k ep b f l _ .0 refl)) (by-rows k ep (length b) (length f) (length l)))

@@ -22,17 +22,17 @@ use Rattle.record.specs.Record as of
 use Rattle.record.specs.Record.{areaIn, needIn, endpointsIn, endpointsOf, recordSound, admissionBy}
 use Rattle.transfer_rules.specs.WriteTests as write
 use Rattle.transfer_rules.specs.WriteTests.{ownTests, ownTestsAt, testsIn, tests}
-use Rattle.transfer_rules.specs.WriteReplies.{unready, tooLong, notWritable, Given, done, blocks, beyond, long, untaken, little, unsound}
+use Rattle.transfer_rules.proofs.WriteCases.{uncollected, tooLong, notWritable, WriteCase, done, blocks, beyond, long, untaken, little, unsound}
 
 module _ (k : Record) (ep n f l : ℕ) where
   -- the tests, one beside the other, as the rows name them
-  pub tests-are : tests k ep n f l ≡ testsBy (admissionBy (short k f l) (recordSound k) (leb (endpointsOf k) ep)) (ownTests (unready k ep) (tooLong k ep n) (notWritable k ep n))
+  pub tests-are : tests k ep n f l ≡ testsBy (admissionBy (short k f l) (recordSound k) (leb (endpointsOf k) ep)) (ownTests (uncollected k ep) (tooLong k ep n) (notWritable k ep n))
   unfolding tests testsIn ownTestsAt short recordSound endpointsOf
   tests-are = refl
 
   -- by the six tests, whatever they say
-  by : (a b c d e g : Bool) → short k f l ≡ a → recordSound k ≡ b → leb (endpointsOf k) ep ≡ c → unready k ep ≡ d → tooLong k ep n ≡ e → notWritable k ep n ≡ g
-      → Given k ep n f l (verdictNumber (testsBy (admissionBy a b c) (ownTests d e g)))
+  by : (a b c d e g : Bool) → short k f l ≡ a → recordSound k ≡ b → leb (endpointsOf k) ep ≡ c → uncollected k ep ≡ d → tooLong k ep n ≡ e → notWritable k ep n ≡ g
+      → WriteCase k ep n f l (verdictNumber (testsBy (admissionBy a b c) (ownTests d e g)))
   by true b c d e g p q r s t u = little p
   by false false c d e g p q r s t u = unsound p q
   by false true true d e g p q r s t u = beyond p q r
@@ -42,11 +42,11 @@ module _ (k : Record) (ep n f l : ℕ) where
   by false true false false false false p q r s t u = done (record { lent = p; passes = q; there = r }) s t u
 
   -- each verdict meets its row
-  pub meets : Given k ep n f l (verdictNumber (tests k ep n f l))
+  pub meets : WriteCase k ep n f l (verdictNumber (tests k ep n f l))
   meets = rw tests-are (by _ _ _ _ _ _ refl refl refl refl refl refl)
 
   -- and a row that is met decides the verdict
-  pub decides : {m : ℕ} → Given k ep n f l m → verdictNumber (tests k ep n f l) ≡ m
+  pub decides : {m : ℕ} → WriteCase k ep n f l m → verdictNumber (tests k ep n f l) ≡ m
   decides (done a s t u) = rw (tests-are, a .lent, a .passes, a .there, s, t, u)
   decides (blocks a s) = rw (tests-are, a .lent, a .passes, a .there, s)
   decides (beyond p q r) = rw (tests-are, p, q, r)
@@ -55,7 +55,7 @@ module _ (k : Record) (ep n f l : ℕ) where
   decides (little p) = rw (tests-are, p)
   decides (unsound p q) = rw (tests-are, p, q)
 
-  pub is-blocked : {m : ℕ} → Given k ep n f l m → m ≡ 6 → tests k ep n f l ≡ Blocked
+  pub is-blocked : {m : ℕ} → WriteCase k ep n f l m → m ≡ 6 → tests k ep n f l ≡ Blocked
   is-blocked (blocks a s) e = rw (tests-are, a .lent, a .passes, a .there, s)
   is-blocked (done a s t u) e = absurd (omega arith)
   is-blocked (beyond p q r) e = absurd (omega arith)

@@ -10,8 +10,9 @@ use Rattle.control_state.specs.declared.ControlState.{ControlState}
 use Rattle.control_state.specs.declared.ControlStateEnum.{ControlStateEnum}
 use Rattle.control_state.specs.declared.ControlStateEnum.the-variants.{Idle, Setup, DataIn, DataOut, Accepted, NodataPhase}
 use Rattle.record.specs.declared.Flags.{Flags}
+use Rattle.record.specs.Record.{withTx}
 use Rattle.transfer_rules.specs.Peek.{After, after, ended}
-use Rattle.transfer_rules.specs.WriteZero.{withEpTx, nodataPhase, accepted, endsBy, dataIn, sentDataIn, sentZero}
+use Rattle.transfer_rules.specs.WriteZero.{nodataPhase, accepted, endsBy, dataIn, sentDataIn, sentZero}
 
 module _ (n t : ℕ) (c : ControlState) (f : Flags) (g : Log) where
   pub data-in-by : {a : Log} {o : After} → a ≡ modifyCsr0l csr0l.TxPktRdy g → o ≡ dataIn n t c f a → o ≡ sentDataIn n t c f g
@@ -49,7 +50,7 @@ module _ (n t : ℕ) (c : ControlState) (f : Flags) (g : Log) where
   by-state : {o : After} (s : ControlStateEnum) → c .state ≡ s → o ≡ sentZero s n t c f g → o ≡ sentZero (c .state) n t c f g
   by-state s e p = p ∙ ap (λ (s : ControlStateEnum). sentZero s n t c f g) (sym e)
 
-  pub zero-nodata : {d : ControlState} {h : Flags} → c .state ≡ NodataPhase → d ≡ withState c Idle → h ≡ withEpTx f (raised (f .«ep_tx») 0)
+  pub zero-nodata : {d : ControlState} {h : Flags} → c .state ≡ NodataPhase → d ≡ withState c Idle → h ≡ withTx f (raised (f .«ep_tx») 0)
       → after d h g ≡ sentZero (c .state) n t c f g
   unfolding nodataPhase
   zero-nodata {h = h} e p q =

@@ -25,7 +25,7 @@ use Rattle.transfer_rules.specs.declared.ReadAnswer.the-variants.{Done, 
 use Rattle.transfer_rules.specs.declared.ReadCalled.{ReadCalled}
 use Rattle.transfer_rules.specs.ReadZero.{rxSize, readZero}
 use Rattle.transfer_rules.specs.ReadTests.{testsIn}
-use Rattle.transfer_rules.specs.declared.Took.{Took}
+use Rattle.transfer_rules.specs.declared.ReadRan.{ReadRan}
 
 -- all that the call leaves
 pub record ReadOutcome : Type 0 where
@@ -34,15 +34,15 @@ pub record ReadOutcome : Type 0 where
   pub buf : List ℕ
 
 -- the same without the parts of the record that no read changes
-pub record Taken : Type 0 where
+pub record ReadLeft : Type 0 where
   pub answer : ReadAnswer
   pub buf : List ℕ
   pub after : After
 
-abbrev pub tookOf : Took → File → List ℕ → List ℕ → Taken
-tookOf o w l x = record { answer = o .answer; buf = x; after = afterOf (o .served) w l }
+abbrev pub readLeft : ReadRan → File → List ℕ → List ℕ → ReadLeft
+readLeft o w l x = record { answer = o .answer; buf = x; after = afterOf (o .served) w l }
 
-abbrev pub outcome : Record → Taken → ReadOutcome
+abbrev pub outcome : Record → ReadLeft → ReadOutcome
 outcome k t = record { result = record { answer = t .answer; «record» = leaving k (t .after); stores = t .after .log .count }; list = t .after .log .list; buf = t .buf }
 
 -- the steps: x is the caller's buffer, y the FIFO memory, which is lent to be read, and stays -----------------------------------
@@ -59,21 +59,21 @@ unfoldable pub got : ℕ → List ℕ → ℕ → ℕ → ControlState → Flags
 got ep x n size c f g = cond (eqb ep 0) (readZero x n size c f g) (readOther c f g)
 
 -- a packet that is read: "returns the packet's length, and drops the packet"
-unfoldable pub taken : Board → ControlState → Flags → ℕ → ℕ → List ℕ → List ℕ → Log → Taken
-taken b c f size ep x y g =
+unfoldable pub readDone : Board → ControlState → Flags → ℕ → ℕ → List ℕ → List ℕ → Log → ReadLeft
+readDone b c f size ep x y g =
     let n = rxCount ep (g .regs) in
     record { answer = Done n; buf = copied b ep n x y; after = got ep (copied b ep n x y) n size c f (writeIndex ep g) }
 
 -- the whole call. "A refusal returns its number and changes nothing: record, FIFOs, list, caller's buffer."
-abbrev pub refused : Refusal → List ℕ → After → Taken
+abbrev pub refused : Refusal → List ℕ → After → ReadLeft
 refused r x s = record { answer = Refused r; buf = x; after = s }
 
-abbrev pub readBy : Verdict → Board → ControlState → Flags → ℕ → ℕ → List ℕ → List ℕ → Log → Taken
-readBy verdict.Clear b c f size ep x y g = taken b c f size ep x y g
+abbrev pub readBy : Verdict → Board → ControlState → Flags → ℕ → ℕ → List ℕ → List ℕ → Log → ReadLeft
+readBy verdict.Clear b c f size ep x y g = readDone b c f size ep x y g
 readBy verdict.Blocked b c f size ep x y g = refused WouldBlock x (blocked ep c f g)
 readBy (verdict.Refused r) b c f size ep x y g = refused r x (after c f g)
 
-unfoldable pub readIn : Board → File → ControlState → Flags → ℕ → ℕ → List ℕ → List ℕ → List ℕ → Taken
+unfoldable pub readIn : Board → File → ControlState → Flags → ℕ → ℕ → List ℕ → List ℕ → List ℕ → ReadLeft
 readIn b w c f size ep x y l = readBy (testsIn b w c f ep (length x) (length y) (length l)) b c f size ep x y (log w l 0)
 
 unfoldable pub readCall : Record → ℕ → List ℕ → List ℕ → List ℕ → ReadOutcome

@@ -21,13 +21,13 @@ use Rattle.transfer_rules.specs.declared.ReadAnswer.{ReadAnswer}
 use Rattle.transfer_rules.specs.declared.ReadAnswer.the-variants.{Done, Refused}
 
 -- document 01's number and values of each answer: "for reads the count then stored bytes"
-abbrev pub gotNumber : ReadAnswer → ℕ
-gotNumber (Done n) = 0
-gotNumber (Refused x) = refusalNumber x
+abbrev pub readNumber : ReadAnswer → ℕ
+readNumber (Done n) = 0
+readNumber (Refused x) = refusalNumber x
 
-abbrev pub gotValues : ReadAnswer → List ℕ → List ℕ
-gotValues (Done n) b = n ∷ take (min n (length b)) b
-gotValues (Refused x) b = []
+abbrev pub readValues : ReadAnswer → List ℕ → List ℕ
+readValues (Done n) b = n ∷ take (min n (length b)) b
+readValues (Refused x) b = []
 
 -- the steps --------------------------------------------------------------------------------------------------------------------
 

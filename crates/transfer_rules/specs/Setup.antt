@@ -14,7 +14,7 @@ use Rattle.control_state.specs.declared.ControlState.{ControlState}
 use Rattle.control_state.specs.declared.ControlStateEnum.the-variants.{DataIn, DataOut, Accepted, NodataPhase}
 use Rattle.record.specs.declared.Flags.{Flags}
 use Rattle.transfer_rules.specs.Peek.{After}
-use Rattle.transfer_rules.specs.Write.{Ran}
+use Rattle.transfer_rules.specs.Write.{WriteLeft}
 use Rattle.transfer_rules.specs.declared.WriteAnswer.the-variants.{Done}
 
 -- one store to CSR0L, with DataEnd and ServicedRxPktRdy as told: the other bits as they read
@@ -50,7 +50,7 @@ pub record SetsUp (b : List ℕ) (c : ControlState) (f : Flags) (g : Log) (o : A
   pub flags : o .irq ≡ f
 
 -- "An empty write in Idle gives Accepted.": endpoint 0 is selected, and nothing else is stored
-pub record Accepts (c : ControlState) (f : Flags) (x : List ℕ) (g : Log) (o : Ran) : Type 0 where
+pub record Accepts (c : ControlState) (f : Flags) (x : List ℕ) (g : Log) (o : WriteLeft) : Type 0 where
   pub accepted : o .after .control .state ≡ Accepted
   pub remaining : o .after .control .«tx_len» ≡ c .«tx_len»
   pub flags : o .after .irq ≡ f

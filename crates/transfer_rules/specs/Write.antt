@@ -33,15 +33,15 @@ pub record WriteOutcome : Type 0 where
   pub list : List ℕ
 
 -- the same by its parts: the answer, the FIFO, and what the steps leave
-pub record Ran : Type 0 where
+pub record WriteLeft : Type 0 where
   pub answer : WriteAnswer
   pub fifo : List ℕ
   pub after : After
 
-abbrev pub ran : WriteAnswer → List ℕ → After → Ran
-ran a x s = record { answer = a; fifo = x; after = s }
+abbrev pub writeLeft : WriteAnswer → List ℕ → After → WriteLeft
+writeLeft a x s = record { answer = a; fifo = x; after = s }
 
-abbrev pub outcome : Record → Ran → WriteOutcome
+abbrev pub outcome : Record → WriteLeft → WriteOutcome
 outcome k o = record {
   result = record { answer = o .answer; «record» = leaving k (o .after); stores = o .after .log .count };
   fifo = o .fifo;
@@ -61,18 +61,18 @@ sentOther c f g = after c f (modifyTxcsrl txcsrl.TxPktRdy g)
 unfoldable pub sent : ℕ → ℕ → ℕ → ControlState → Flags → Log → After
 sent ep n t c f g = cond (eqb ep 0) (sentZero (c .state) n t c f g) (sentOther c f g)
 
--- a packet that is taken: its bytes stand in the endpoint's area, and every other byte stays
-unfoldable pub taken : Board → ControlState → Flags → ℕ → ℕ → List ℕ → List ℕ → Log → Ran
-taken b c f t ep bytes x g =
-    ran (Done (length bytes)) (pasted x (areaIn b ep In .start) bytes) (sent ep (length bytes) t c f (loaded ep (length bytes) g))
+-- a packet that is writeDone: its bytes stand in the endpoint's area, and every other byte stays
+unfoldable pub writeDone : Board → ControlState → Flags → ℕ → ℕ → List ℕ → List ℕ → Log → WriteLeft
+writeDone b c f t ep bytes x g =
+    writeLeft (Done (length bytes)) (pasted x (areaIn b ep In .start) bytes) (sent ep (length bytes) t c f (loaded ep (length bytes) g))
 
 -- the whole call. "A refusal returns its number and changes nothing: record, FIFOs, list"
-abbrev pub writeBy : Verdict → Board → ControlState → Flags → ℕ → ℕ → List ℕ → List ℕ → Log → Ran
-writeBy verdict.Clear b c f t ep bytes x g = taken b c f t ep bytes x g
-writeBy verdict.Blocked b c f t ep bytes x g = ran (Refused WouldBlock) x (blocked ep c f g)
-writeBy (verdict.Refused y) b c f t ep bytes x g = ran (Refused y) x (after c f g)
+abbrev pub writeBy : Verdict → Board → ControlState → Flags → ℕ → ℕ → List ℕ → List ℕ → Log → WriteLeft
+writeBy verdict.Clear b c f t ep bytes x g = writeDone b c f t ep bytes x g
+writeBy verdict.Blocked b c f t ep bytes x g = writeLeft (Refused WouldBlock) x (blocked ep c f g)
+writeBy (verdict.Refused y) b c f t ep bytes x g = writeLeft (Refused y) x (after c f g)
 
-unfoldable pub writeIn : Board → File → ControlState → Flags → ℕ → ℕ → List ℕ → List ℕ → List ℕ → Ran
+unfoldable pub writeIn : Board → File → ControlState → Flags → ℕ → ℕ → List ℕ → List ℕ → List ℕ → WriteLeft
 writeIn b w c f t ep bytes x l =
     writeBy (testsIn b w c f ep (length bytes) (length x) (length l)) b c f t ep bytes x (log w l 0)
 
@@ -85,4 +85,4 @@ refused y k f l = record { result = record { answer = Refused y; «record» = k;
 
 -- and after reply 6: the endpoint is selected, and that store is listed
 abbrev pub blockedCall : Record → ℕ → List ℕ → List ℕ → WriteOutcome
-blockedCall k ep f l = outcome k (ran (Refused WouldBlock) f (blocked ep (k .«control_state») (k .irq) (log (k .regs .words) l 0)))
+blockedCall k ep f l = outcome k (writeLeft (Refused WouldBlock) f (blocked ep (k .«control_state») (k .irq) (log (k .regs .words) l 0)))

@@ -17,30 +17,27 @@ use Rattle.endpoints.specs.declared.EndpointData.{EndpointData}
 use Rattle.endpoints.specs.Endpoints.{blank, sizeIn}
 use Rattle.record.specs.declared.Flags.{Flags}
 use Rattle.record.specs.declared.Record.{Record}
-use Rattle.record.specs.Record.{refusalNumber}
+use Rattle.record.specs.Record.{refusalNumber, withTx}
 use Rattle.transfer_rules.specs.Peek.{After, after, ended}
 use Rattle.transfer_rules.specs.declared.WriteAnswer.{WriteAnswer}
 use Rattle.transfer_rules.specs.declared.WriteAnswer.the-variants.{Done, Refused}
 
 -- document 01's number and values of each answer
-abbrev pub wroteNumber : WriteAnswer → ℕ
-wroteNumber (Done n) = 0
-wroteNumber (Refused x) = refusalNumber x
+abbrev pub writeNumber : WriteAnswer → ℕ
+writeNumber (Done n) = 0
+writeNumber (Refused x) = refusalNumber x
 
-abbrev pub wroteValues : WriteAnswer → List ℕ
-wroteValues (Done n) = n ∷ []
-wroteValues (Refused x) = []
+abbrev pub writeValues : WriteAnswer → List ℕ
+writeValues (Done n) = n ∷ []
+writeValues (Refused x) = []
 
 -- the steps --------------------------------------------------------------------------------------------------------------------
 
 -- In each: n bytes are written, t is endpoint 0's recorded transmit size, c and f are the control state and the flags before.
 
 -- NodataPhase: `set_state(Idle)`, `IRQ_EP_TX | 1`
-abbrev pub withEpTx : Flags → ℕ → Flags
-withEpTx f w = record { reset = f .reset; suspend = f .suspend; resume = f .resume; ep0 = f .ep0; «ep_tx» = w; «ep_rx» = f .«ep_rx» }
-
 unfoldable pub nodataPhase : ControlState → Flags → Log → After
-nodataPhase c f g = after (withState c Idle) (withEpTx f (raised (f .«ep_tx») 0)) g
+nodataPhase c f g = after (withState c Idle) (withTx f (raised (f .«ep_tx») 0)) g
 
 -- Idle: `set_state(Accepted)`. "An empty write in Idle gives Accepted."
 unfoldable pub accepted : ControlState → Flags → Log → After

@@ -32,7 +32,7 @@ pub struct WriteCalled {
 }
 
 // The answer, and what the steps hand on.
-pub struct Sent {
+pub struct WriteRan {
     pub answer: WriteAnswer,
     pub served: Served,
 }
@@ -50,7 +50,7 @@ pub struct ReadCalled {
 }
 
 // What the steps hand on, and the answer.
-pub struct Took {
+pub struct ReadRan {
     pub answer: ReadAnswer,
     pub served: Served,
 }

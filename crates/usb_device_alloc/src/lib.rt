@@ -3,7 +3,7 @@ use board::Board;
 use board::Direction;
 use call_rules::AllocAnswer;
 use call_rules::AllocCalled;
-use call_rules::Assigned;
+use call_rules::AllocRan;
 use endpoints::Answer;
 use endpoints::EndpointData;
 use endpoints::EndpointType;
@@ -13,7 +13,7 @@ use record::Refusal;
 ghost use mathlib.Core.Path.{_≡_};
 ghost use Rattle.board.specs.Boards.{rows};
 ghost use Rattle.endpoints.specs.Endpoints.{ask};
-ghost use Rattle.call_rules.specs.Alloc.{allocated, assignedIf, allocEpCall};
+ghost use Rattle.call_rules.specs.Alloc.{allocated, allocRanIf, allocEpCall};
 
 // The answer of alloc_endpoint, as `alloc_ep` hands it on.
 fn handed_on(a: Answer) -> AllocAnswer
@@ -33,19 +33,19 @@ fn allocate(
     ep_addr: Wanted,
     ep_type: EndpointType,
     max_packet_size: u16,
-) -> Assigned
-    ensures { λ o. ⌜ o ≡ assignedIf ok (rows b) e (ask «ep_type» «ep_dir» «max_packet_size») «ep_addr» ⌝ }
+) -> AllocRan
+    ensures { λ o. ⌜ o ≡ allocRanIf ok (rows b) e (ask «ep_type» «ep_dir» «max_packet_size») «ep_addr» ⌝ }
 {
     if ok {
         let o = alloc_endpoint::alloc_endpoint(b, e, ep_type, ep_addr, ep_dir, max_packet_size);
         let a = o.answer;
         let next = o.endpoints;
-        return Assigned {
+        return AllocRan {
             answer: handed_on(a),
             endpoints: next,
         };
     }
-    Assigned {
+    AllocRan {
         answer: AllocAnswer::Refused(Refusal::BadRecord),
         endpoints: e,
     }

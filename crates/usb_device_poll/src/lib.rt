@@ -5,10 +5,10 @@ use record::Admission;
 use record::Flags;
 use record::Record;
 use register_file::Regs;
-use round_rules::Answered;
 use round_rules::Masks;
 use round_rules::PollAnswer;
 use round_rules::PollCalled;
+use round_rules::PollRan;
 use round_rules::PollResult;
 use round_rules::Progress;
 ghost use mathlib.Core.Path.{_≡_};
@@ -16,9 +16,10 @@ ghost use mathlib.Core.Bool.{false, cond};
 ghost use Prim.Native.Nat.{_+_, _*_, _≤_, _<_};
 ghost use lib.ListN.{length};
 ghost use Rattle.store_rules.specs.Stores.{log};
-ghost use Rattle.round_rules.specs.Round.{withReset, told};
+ghost use Rattle.round_rules.specs.Round.{told};
 ghost use Rattle.round_rules.specs.Zero.{roundOf};
 ghost use Rattle.round_rules.specs.Poll.{outcome, afterOf, polled, walkedOn, acceptedOn, roundOut, pollLogged, pollServed, pollAdmitted, pollCall};
+ghost use Rattle.record.specs.Record.{withReset};
 
 fn setup_mask(setup: bool) -> u16
     ensures { λ m. ⌜ m ≡ cond setup 1 0 ⌝ }
@@ -40,10 +41,10 @@ fn tell(out: u16, sent: u16, setup: bool) -> PollResult
     PollResult::None
 }
 
-fn answer(a: PollResult, n: usize, c: ControlState, f: Flags) -> Answered
+fn answer(a: PollResult, n: usize, c: ControlState, f: Flags) -> PollRan
     ensures { λ o. ⌜ o ≡ polled a n c f ⌝ }
 {
-    Answered {
+    PollRan {
         answer: PollAnswer::Done(a),
         n: n,
         control_state: c,
@@ -51,7 +52,7 @@ fn answer(a: PollResult, n: usize, c: ControlState, f: Flags) -> Answered
     }
 }
 
-fn walk_on(w: &mut [u16; 46], list: &mut [u16], o: Progress) -> Answered
+fn walk_on(w: &mut [u16; 46], list: &mut [u16], o: Progress) -> PollRan
     requires { ⌜ (o .irq .«ep_rx» < 64) × (o .n * 3 + 18 ≤ length (now list)) ⌝ }
     ensures { λ p. ⌜ afterOf p (now (w .exit)) (now (list .exit)) ≡ walkedOn (roundOf o (now (w .entry)) (now (list .entry))) ⌝ }
 {
@@ -64,7 +65,7 @@ fn walk_on(w: &mut [u16; 46], list: &mut [u16], o: Progress) -> Answered
     answer(a, x.n, o.control_state, g)
 }
 
-fn accept_on(w: &mut [u16; 46], list: &mut [u16], o: Progress) -> Answered
+fn accept_on(w: &mut [u16; 46], list: &mut [u16], o: Progress) -> PollRan
     requires { ⌜ (o .irq .«ep_rx» < 64) × (o .n * 3 + 18 ≤ length (now list)) ⌝ }
     ensures { λ p. ⌜ afterOf p (now (w .exit)) (now (list .exit)) ≡ acceptedOn (roundOf o (now (w .entry)) (now (list .entry))) ⌝ }
 {
@@ -80,7 +81,7 @@ fn accept_on(w: &mut [u16; 46], list: &mut [u16], o: Progress) -> Answered
     walk_on(w, list, p)
 }
 
-fn round(w: &mut [u16; 46], list: &mut [u16], n: usize, c: ControlState, f: Flags) -> Answered
+fn round(w: &mut [u16; 46], list: &mut [u16], n: usize, c: ControlState, f: Flags) -> PollRan
     requires { ⌜ (f .«ep_rx» < 64) × (n * 3 + 24 ≤ length (now list)) ⌝ }
     ensures { λ p. ⌜ afterOf p (now (w .exit)) (now (list .exit)) ≡ roundOut (log (now (w .entry)) (now (list .entry)) n) c f ⌝ }
 {
@@ -97,7 +98,7 @@ fn reset_down(f: Flags) -> Flags
 }
 
 // Reset, Resume, Suspend, and then a round. The Suspend step puts down the reset flag and not its own, as the source does.
-fn by_flags(w: &mut [u16; 46], list: &mut [u16], n: usize, c: ControlState, f: Flags) -> Answered
+fn by_flags(w: &mut [u16; 46], list: &mut [u16], n: usize, c: ControlState, f: Flags) -> PollRan
     requires { ⌜ (f .«ep_rx» < 64) × (n * 3 + 24 ≤ length (now list)) ⌝ }
     ensures { λ p. ⌜ afterOf p (now (w .exit)) (now (list .exit)) ≡ pollLogged (log (now (w .entry)) (now (list .entry)) n) c f ⌝ }
 {
@@ -115,7 +116,7 @@ fn by_flags(w: &mut [u16; 46], list: &mut [u16], n: usize, c: ControlState, f: F
     round(w, list, n, c, f)
 }
 
-fn serve(b: Board, w: &mut [u16; 46], list: &mut [u16], c: ControlState, f: Flags) -> Answered
+fn serve(b: Board, w: &mut [u16; 46], list: &mut [u16], c: ControlState, f: Flags) -> PollRan
     requires { ⌜ (f .«ep_rx» < 64) × (384 ≤ length (now list)) ⌝ }
     ensures { λ p. ⌜ afterOf p (now (w .exit)) (now (list .exit)) ≡ pollServed b (log (now (w .entry)) (now (list .entry)) 0) c f ⌝ }
 {
@@ -123,12 +124,12 @@ fn serve(b: Board, w: &mut [u16; 46], list: &mut [u16], c: ControlState, f: Flag
     by_flags(w, list, n, c, f)
 }
 
-fn admitted(b: Board, w: &mut [u16; 46], list: &mut [u16], c: ControlState, f: Flags) -> Answered
+fn admitted(b: Board, w: &mut [u16; 46], list: &mut [u16], c: ControlState, f: Flags) -> PollRan
     ensures { λ p. ⌜ afterOf p (now (w .exit)) (now (list .exit)) ≡ pollAdmitted b (now (w .entry)) (now (list .entry)) c f ⌝ }
 {
     let e = record_ops::admit(list.len() < record_ops::LIST, b, w, f, false);
     match e {
-        Admission::Refused(x) => Answered {
+        Admission::Refused(x) => PollRan {
             answer: PollAnswer::Refused(x),
             n: 0,
             control_state: c,

@@ -14,8 +14,8 @@ use record::Refusal;
 use register_file::Regs;
 use transfer_rules::ReadAnswer;
 use transfer_rules::ReadCalled;
+use transfer_rules::ReadRan;
 use transfer_rules::Served;
-use transfer_rules::Took;
 use transfer_rules::Verdict;
 ghost use mathlib.Core.Path.{_≡_};
 ghost use mathlib.Core.Bool.{true};
@@ -27,7 +27,7 @@ ghost use Rattle.transfer_rules.specs.Peek.{afterOf, rxCount};
 ghost use Rattle.transfer_rules.specs.ReadZero.{wLength, wayIn, afterSetup, setUp, dataOut, zeroBy, readZero};
 ghost use Rattle.board.specs.declared.Direction.the-variants.{Out};
 ghost use Rattle.record.specs.Record.{areaIn, needIn, passes};
-ghost use Rattle.transfer_rules.specs.Read.{tookOf, copied, readOther, got, taken, readIn, readCall};
+ghost use Rattle.transfer_rules.specs.Read.{readLeft, copied, readOther, got, readDone, readIn, readCall};
 
 // The source panics in these states.
 fn unreadable_in(s: ControlStateEnum) -> bool
@@ -300,14 +300,14 @@ fn take(
     size: usize,
     buf: &mut [u8],
     fifo: &[u8],
-) -> Took
+) -> ReadRan
     requires { ⌜ (passes b (now w) f ≡ true) × (needIn b ≤ length (now fifo)) × (384 ≤ length (now list)) ⌝ }
-    ensures { λ o. ⌜ tookOf o (now (w .exit)) (now (list .exit)) (now (buf .exit)) ≡ taken b c f size ep (now (buf .entry)) (now (fifo .entry)) (log (now (w .entry)) (now (list .entry)) 0) ⌝ }
+    ensures { λ o. ⌜ readLeft o (now (w .exit)) (now (list .exit)) (now (buf .exit)) ≡ readDone b c f size ep (now (buf .entry)) (now (fifo .entry)) (log (now (w .entry)) (now (list .entry)) 0) ⌝ }
 {
     let n = stores::write_index(w, list, 0, ep);
     let count = fetch(b, w, ep, buf, fifo);
     let s = serve(w, list, n, ep, c, f, count, size, buf);
-    Took {
+    ReadRan {
         answer: ReadAnswer::Done(count),
         served: s,
     }
@@ -324,17 +324,17 @@ fn read_by(
     size: usize,
     buf: &mut [u8],
     fifo: &[u8],
-) -> Took
-    ensures { λ o. ⌜ tookOf o (now (w .exit)) (now (list .exit)) (now (buf .exit)) ≡ readIn b (now (w .entry)) c f size ep (now (buf .entry)) (now (fifo .entry)) (now (list .entry)) ⌝ }
+) -> ReadRan
+    ensures { λ o. ⌜ readLeft o (now (w .exit)) (now (list .exit)) (now (buf .exit)) ≡ readIn b (now (w .entry)) c f size ep (now (buf .entry)) (now (fifo .entry)) (now (list .entry)) ⌝ }
 {
     let v = refusal(b, w, c, f, ep, buf.len(), fifo.len(), list.len());
     match v {
         Verdict::Clear => take(b, w, list, ep, c, f, size, buf, fifo),
-        Verdict::Blocked => Took {
+        Verdict::Blocked => ReadRan {
             answer: ReadAnswer::Refused(Refusal::WouldBlock),
             served: peek::block(w, list, ep, c, f),
         },
-        Verdict::Refused(x) => Took {
+        Verdict::Refused(x) => ReadRan {
             answer: ReadAnswer::Refused(x),
             served: Served {
                 n: 0,

@@ -1,11 +1,11 @@
 // The calls `set_stalled` and `is_stalled` of the source's usb_device_impl/mod.rs.
 use board::Board;
 use board::Direction;
-use call_rules::Asked;
 use call_rules::Called;
 use call_rules::Ran;
 use call_rules::StalledAnswer;
 use call_rules::StalledCalled;
+use call_rules::StalledRan;
 use common_rules::Stalled;
 use control_state::ControlState;
 use record::Admission;
@@ -18,7 +18,7 @@ ghost use lib.ListN.{length};
 ghost use Rattle.store_rules.specs.Stores.{log, writeIndex};
 ghost use Rattle.common_rules.specs.Common.{isStalled};
 ghost use Rattle.call_rules.specs.Calls.{left};
-ghost use Rattle.call_rules.specs.Stall.{epStall, afterStall, setStalledRan, setStalledCall, toldLeft, isStalledRan, isStalledCall};
+ghost use Rattle.call_rules.specs.Stall.{epStall, afterStall, setStalledRan, setStalledCall, stalledLeft, isStalledRan, isStalledCall};
 
 fn ep_stall(
     w: &mut [u16; 46],
@@ -110,18 +110,18 @@ fn run_is_stalled(
     f: Flags,
     ep: u8,
     direction: Direction,
-) -> Asked
-    ensures { λ o. ⌜ toldLeft o (now (w .exit)) (now (list .exit)) ≡ isStalledRan b f ep direction (log (now (w .entry)) (now (list .entry)) 0) ⌝ }
+) -> StalledRan
+    ensures { λ o. ⌜ stalledLeft o (now (w .exit)) (now (list .exit)) ≡ isStalledRan b f ep direction (log (now (w .entry)) (now (list .entry)) 0) ⌝ }
 {
     let t = usb_device_impl::admit_at(list.len(), b, w, f, ep);
     match t {
-        Admission::Refused(x) => Asked {
+        Admission::Refused(x) => StalledRan {
             answer: StalledAnswer::Refused(x),
             n: 0,
         },
         Admission::Clear => {
             let o = ep_is_stalled(w, list, 0, ep, direction);
-            Asked {
+            StalledRan {
                 answer: StalledAnswer::Done(o.stalled),
                 n: o.n,
             }

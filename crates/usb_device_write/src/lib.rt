@@ -13,11 +13,11 @@ use record::Flags;
 use record::Record;
 use record::Refusal;
 use register_file::Regs;
-use transfer_rules::Sent;
 use transfer_rules::Served;
 use transfer_rules::Verdict;
 use transfer_rules::WriteAnswer;
 use transfer_rules::WriteCalled;
+use transfer_rules::WriteRan;
 ghost use mathlib.Core.Path.{_≡_};
 ghost use Prim.Native.Nat.{_<_, _+_, _*_, _≤_};
 ghost use Rattle.transfer_rules.specs.WriteTests.{tooLong, untakenIn, notWritable, ownTestsAt, testsIn};
@@ -25,11 +25,11 @@ ghost use lib.ListN.{length};
 ghost use Rattle.laws.specs.Words.{raised};
 ghost use Rattle.store_rules.specs.Stores.{log};
 ghost use Rattle.transfer_rules.specs.Peek.{afterOf};
-ghost use Rattle.transfer_rules.specs.WriteZero.{withEpTx, txSizeIn, dataIn, sentDataIn, sentZero};
+ghost use Rattle.transfer_rules.specs.WriteZero.{txSizeIn, dataIn, sentDataIn, sentZero};
 ghost use Rattle.board.specs.declared.Direction.the-variants.{In};
 ghost use Rattle.laws.specs.Lists.{pasted};
-ghost use Rattle.record.specs.Record.{areaIn, needIn};
-ghost use Rattle.transfer_rules.specs.Write.{ran, loaded, sentOther, sent, writeIn, writeCall};
+ghost use Rattle.record.specs.Record.{areaIn, needIn, withTx};
+ghost use Rattle.transfer_rules.specs.Write.{writeLeft, loaded, sentOther, sent, writeIn, writeCall};
 
 fn too_long(b: Board, ep: u8, len: usize) -> bool
     ensures { λ t. ⌜ t ≡ tooLong b ep len ⌝ }
@@ -112,7 +112,7 @@ pub fn tx_size(es: [EndpointData; 6]) -> usize
 
 // Transmit flag 0.
 fn raise_ep_tx(f: Flags) -> Flags
-    ensures { λ o. ⌜ o ≡ withEpTx f (raised (f .«ep_tx») 0) ⌝ }
+    ensures { λ o. ⌜ o ≡ withTx f (raised (f .«ep_tx») 0) ⌝ }
 {
     let w = laws::raise(f.ep_tx, 0);
     let mut o = f;
@@ -273,20 +273,20 @@ fn write_by(
     ep: u8,
     bytes: &[u8],
     fifo: &mut [u8],
-) -> Sent
-    ensures { λ o. ⌜ ran (o .answer) (now (fifo .exit)) (afterOf (o .served) (now (w .exit)) (now (list .exit))) ≡ writeIn b (now (w .entry)) c f size ep (now (bytes .entry)) (now (fifo .entry)) (now (list .entry)) ⌝ }
+) -> WriteRan
+    ensures { λ o. ⌜ writeLeft (o .answer) (now (fifo .exit)) (afterOf (o .served) (now (w .exit)) (now (list .exit))) ≡ writeIn b (now (w .entry)) c f size ep (now (bytes .entry)) (now (fifo .entry)) (now (list .entry)) ⌝ }
 {
     let v = refusal(b, w, c, f, ep, bytes.len(), fifo.len(), list.len());
     match v {
-        Verdict::Clear => Sent {
+        Verdict::Clear => WriteRan {
             answer: WriteAnswer::Done(bytes.len()),
             served: send(b, w, list, c, f, size, ep, bytes, fifo),
         },
-        Verdict::Blocked => Sent {
+        Verdict::Blocked => WriteRan {
             answer: WriteAnswer::Refused(Refusal::WouldBlock),
             served: peek::block(w, list, ep, c, f),
         },
-        Verdict::Refused(x) => Sent {
+        Verdict::Refused(x) => WriteRan {
             answer: WriteAnswer::Refused(x),
             served: Served {
                 n: 0,

@@ -20,9 +20,6 @@ Inv-loop board endpoints ep-type direction max-packet-size count i₀ i =
 abbrev μ-loop : tie.MeasureT-loop
 μ-loop board endpoints ep-type direction max-packet-size count i₀ i = count - i
 
-endpoints-requires : tie.Need-endpoints-requires Inv-loop μ-loop
-endpoints-requires c κs = search needs
-
 loop-holds : tie.Need-loop-holds Inv-loop μ-loop
 unfolding answerTo
 loop-holds c = rw (c .endpoints .ensures)
@@ -30,36 +27,12 @@ loop-holds c = rw (c .endpoints .ensures)
 check-at-requires : tie.Need-check-at-requires Inv-loop μ-loop
 check-at-requires c κs = omega (arith, at-most-six (c .before .before .before .args .board))
 
-is-ok-requires : tie.Need-is-ok-requires Inv-loop μ-loop
-is-ok-requires c κs = search needs
-
-returns : tie.Need-returns Inv-loop μ-loop
-returns c = search (stops, needs)
-
 add-i : tie.Need-add-i Inv-loop μ-loop
 add-i c = omega arith
 
 loop-less : tie.Need-loop-less Inv-loop μ-loop
 loop-less c = omega arith
 
-loop-again : tie.Need-loop-again Inv-loop μ-loop
-loop-again c = search (goes-on, needs)
-
-returns-2 : tie.Need-returns-2 Inv-loop μ-loop
-returns-2 c = search (at-end, needs)
-
 pub alloc-any-spec : {M : Type 1} → statement M
-alloc-any-spec =
-    tie.close
-    (tie.spec
-    Inv-loop
-    μ-loop
-    endpoints-requires
-    loop-holds
-    check-at-requires
-    is-ok-requires
-    returns
-    add-i
-    loop-less
-    loop-again
-    returns-2)
+alloc-any-spec = tie.close (tie.spec Inv-loop μ-loop (λ c κs. search needs) loop-holds check-at-requires (λ c κs. search needs)
+    (λ c. search (stops, needs)) add-i loop-less (λ c. search (goes-on, needs)) (λ c. search (at-end, needs)))

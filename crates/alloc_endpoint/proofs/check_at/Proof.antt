@@ -5,18 +5,9 @@ use borrow.Author.Needs.{needs}
 use Rattle.alloc_endpoint.proofs.check_at.Statement.{statement}
 use Rattle.alloc_endpoint.proofs.check_at.Tie as tie
 
-mul-ep : tie.Need-mul-ep
-mul-ep c = search needs
-
-array-copy-out-ep : tie.Need-array-copy-out-ep
-array-copy-out-ep c = search needs
-
-check-endpoint-requires : tie.Need-check-endpoint-requires
-check-endpoint-requires c κs = search needs
-
 returns : tie.Need-returns
 unfolding checkAt
 returns c = c .check-endpoint .ensures
 
 pub check-at-spec : {M : Type 1} → statement M
-check-at-spec = tie.close (tie.spec mul-ep array-copy-out-ep check-endpoint-requires returns)
+check-at-spec = tie.close (tie.spec (λ c. search needs) (λ c. search needs) (λ c κs. search needs) returns)

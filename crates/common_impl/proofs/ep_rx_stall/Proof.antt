@@ -4,15 +4,9 @@ use borrow.Author.Needs.{needs}
 use Rattle.common_impl.proofs.ep_rx_stall.Statement.{statement}
 use Rattle.common_impl.proofs.ep_rx_stall.Tie as tie
 
-stall-requires : tie.Need-stall-requires
-stall-requires c κs = search needs
-
-same-length : tie.Need-same-length
-same-length c = search needs
-
 returns : tie.Need-returns
 unfolding epRxStall
 returns c = search needs
 
 pub ep-rx-stall-spec : {M : Type 1} → statement M
-ep-rx-stall-spec = tie.close (tie.spec stall-requires same-length returns)
+ep-rx-stall-spec = tie.close (tie.spec (λ c κs. search needs) (λ c. search needs) returns)

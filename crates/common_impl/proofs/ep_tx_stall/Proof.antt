@@ -4,15 +4,9 @@ use borrow.Author.Needs.{needs}
 use Rattle.common_impl.proofs.ep_tx_stall.Statement.{statement}
 use Rattle.common_impl.proofs.ep_tx_stall.Tie as tie
 
-stall-requires : tie.Need-stall-requires
-stall-requires c κs = search needs
-
-same-length : tie.Need-same-length
-same-length c = search needs
-
 returns : tie.Need-returns
 unfolding epTxStall
 returns c = search needs
 
 pub ep-tx-stall-spec : {M : Type 1} → statement M
-ep-tx-stall-spec = tie.close (tie.spec stall-requires same-length returns)
+ep-tx-stall-spec = tie.close (tie.spec (λ c κs. search needs) (λ c. search needs) returns)

@@ -3,52 +3,26 @@ use borrow.Author.Needs.{needs}
 use Rattle.csr_ops.proofs.csr0l_set.Statement.{statement}
 use Rattle.csr_ops.proofs.csr0l_set.Tie as tie
 
-enum-told : tie.Need-enum-told
-enum-told c = search needs
-
 returns : tie.Need-returns
 unfolding csr0lSet
 returns c = rw (c .enum-told .given .1)
-
-enum-told-2 : tie.Need-enum-told-2
-enum-told-2 c = search needs
 
 returns-2 : tie.Need-returns-2
 unfolding csr0lSet
 returns-2 c = rw (c .enum-told2 .given .1)
 
-enum-told-3 : tie.Need-enum-told-3
-enum-told-3 c = search needs
-
 returns-3 : tie.Need-returns-3
 unfolding csr0lSet
 returns-3 c = rw (c .enum-told3 .given .1)
 
-enum-told-4 : tie.Need-enum-told-4
-enum-told-4 c = search needs
-
 returns-4 : tie.Need-returns-4
 unfolding csr0lSet
 returns-4 c = rw (c .enum-told4 .given .1)
-
-enum-told-5 : tie.Need-enum-told-5
-enum-told-5 c = search needs
 
 returns-5 : tie.Need-returns-5
 unfolding csr0lSet
 returns-5 c = rw (c .enum-told5 .given .1)
 
 pub csr0l-set-spec : {M : Type 1} → statement M
-csr0l-set-spec =
-    tie.close
-    (tie.spec
-    enum-told
-    returns
-    enum-told-2
-    returns-2
-    enum-told-3
-    returns-3
-    enum-told-4
-    returns-4
-    enum-told-5
-    returns-5)
+csr0l-set-spec = tie.close (tie.spec (λ c. search needs) returns (λ c. search needs) returns-2 (λ c. search needs) returns-3
+    (λ c. search needs) returns-4 (λ c. search needs) returns-5)

@@ -3,12 +3,9 @@ use borrow.Author.Needs.{needs}
 use Rattle.csr_ops.proofs.drop_packet.Statement.{statement}
 use Rattle.csr_ops.proofs.drop_packet.Tie as tie
 
-kept-requires : tie.Need-kept-requires
-kept-requires c κs = search needs
-
 returns : tie.Need-returns
 unfolding dropped
 returns c = cc
 
 pub drop-packet-spec : {M : Type 1} → statement M
-drop-packet-spec = tie.close (tie.spec kept-requires returns)
+drop-packet-spec = tie.close (tie.spec (λ c κs. search needs) returns)

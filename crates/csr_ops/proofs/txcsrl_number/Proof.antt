@@ -3,64 +3,11 @@ use borrow.Author.Needs.{needs}
 use Rattle.csr_ops.proofs.txcsrl_number.Statement.{statement}
 use Rattle.csr_ops.proofs.txcsrl_number.Tie as tie
 
-weight-requires : tie.Need-weight-requires
-weight-requires c κs = search needs
-
-weight-requires-2 : tie.Need-weight-requires-2
-weight-requires-2 c κs = search needs
-
-add-result : tie.Need-add-result
-add-result c = search needs
-
-weight-requires-3 : tie.Need-weight-requires-3
-weight-requires-3 c κs = search needs
-
-add-result-2 : tie.Need-add-result-2
-add-result-2 c = search needs
-
-weight-requires-4 : tie.Need-weight-requires-4
-weight-requires-4 c κs = search needs
-
-add-result-3 : tie.Need-add-result-3
-add-result-3 c = search needs
-
-weight-requires-5 : tie.Need-weight-requires-5
-weight-requires-5 c κs = search needs
-
-add-result-4 : tie.Need-add-result-4
-add-result-4 c = search needs
-
-weight-requires-6 : tie.Need-weight-requires-6
-weight-requires-6 c κs = search needs
-
-add-result-5 : tie.Need-add-result-5
-add-result-5 c = search needs
-
-weight-requires-7 : tie.Need-weight-requires-7
-weight-requires-7 c κs = search needs
-
-add-result-6 : tie.Need-add-result-6
-add-result-6 c = search needs
-
 returns : tie.Need-returns
 unfolding txcsrlNumber
 returns c = cc
 
 pub txcsrl-number-spec : {M : Type 1} → statement M
-txcsrl-number-spec =
-    tie.close
-    (tie.spec
-    weight-requires
-    weight-requires-2
-    add-result
-    weight-requires-3
-    add-result-2
-    weight-requires-4
-    add-result-3
-    weight-requires-5
-    add-result-4
-    weight-requires-6
-    add-result-5
-    weight-requires-7
-    add-result-6
-    returns)
+txcsrl-number-spec = tie.close (tie.spec (λ c κs. search needs) (λ c κs. search needs) (λ c. search needs) (λ c κs. search needs)
+    (λ c. search needs) (λ c κs. search needs) (λ c. search needs) (λ c κs. search needs) (λ c. search needs) (λ c κs. search needs)
+    (λ c. search needs) (λ c κs. search needs) (λ c. search needs) returns)

@@ -4,15 +4,9 @@ use borrow.Author.Needs.{needs}
 use Rattle.enabling.proofs.flush_zero.Statement.{statement}
 use Rattle.enabling.proofs.flush_zero.Tie as tie
 
-flush-csr0h-requires : tie.Need-flush-csr0h-requires
-flush-csr0h-requires c κs = search needs
-
-same-length : tie.Need-same-length
-same-length c = search needs
-
 returns : tie.Need-returns
 unfolding flushedZero
 returns c = search needs
 
 pub flush-zero-spec : {M : Type 1} → statement M
-flush-zero-spec = tie.close (tie.spec flush-csr0h-requires same-length returns)
+flush-zero-spec = tie.close (tie.spec (λ c κs. search needs) (λ c. search needs) returns)

@@ -6,12 +6,6 @@ use borrow.Author.Needs.{needs}
 use Rattle.enabling.proofs.write_iso_if.Statement.{statement}
 use Rattle.enabling.proofs.write_iso_if.Tie as tie
 
-write-iso-requires : tie.Need-write-iso-requires
-write-iso-requires c κs = search needs
-
-same-length : tie.Need-same-length
-same-length c = search needs
-
 returns : tie.Need-returns
 unfolding isoWritten
 returns c = (when-true _ _ (c .before .before .before .before .before .if1 .taken) (c .before .before .write-iso .ensures .0), search needs)
@@ -21,4 +15,4 @@ unfolding isoWritten
 returns-2 c = (when-false _ _ (c .if1 .left) refl, search needs)
 
 pub write-iso-if-spec : {M : Type 1} → statement M
-write-iso-if-spec = tie.close (tie.spec write-iso-requires same-length returns returns-2)
+write-iso-if-spec = tie.close (tie.spec (λ c κs. search needs) (λ c. search needs) returns returns-2)

@@ -4,15 +4,9 @@ use borrow.Author.Needs.{needs}
 use Rattle.enabling.proofs.write_size.Statement.{statement}
 use Rattle.enabling.proofs.write_size.Tie as tie
 
-write-maxp-requires : tie.Need-write-maxp-requires
-write-maxp-requires c κs = search needs
-
-same-length : tie.Need-same-length
-same-length c = search needs
-
 returns : tie.Need-returns
 unfolding sized
 returns c = search needs
 
 pub write-size-spec : {M : Type 1} → statement M
-write-size-spec = tie.close (tie.spec write-maxp-requires same-length returns)
+write-size-spec = tie.close (tie.spec (λ c κs. search needs) (λ c. search needs) returns)

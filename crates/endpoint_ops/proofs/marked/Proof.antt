@@ -5,12 +5,6 @@ use borrow.Author.Needs.{needs}
 use Rattle.endpoint_ops.proofs.marked.Statement.{statement}
 use Rattle.endpoint_ops.proofs.marked.Tie as tie
 
-enum-told : tie.Need-enum-told
-enum-told c = search needs
-
-enum-told-2 : tie.Need-enum-told-2
-enum-told-2 c = search needs
-
 returns : tie.Need-returns
 unfolding granted
 returns c = rw (c .enum-told .given .1)
@@ -20,4 +14,4 @@ unfolding granted
 returns-2 c = rw (c .enum-told2 .given .1)
 
 pub marked-spec : {M : Type 1} → statement M
-marked-spec = tie.close (tie.spec enum-told enum-told-2 returns returns-2)
+marked-spec = tie.close (tie.spec (λ c. search needs) (λ c. search needs) returns returns-2)

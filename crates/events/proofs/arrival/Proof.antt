@@ -5,23 +5,12 @@ use borrow.Author.Needs.{needs}
 use Rattle.events.proofs.arrival.Statement.{statement}
 use Rattle.events.proofs.arrival.Tie as tie
 
-arrival-zero-requires : tie.Need-arrival-zero-requires
-arrival-zero-requires c κs = search needs
-
 returns : tie.Need-returns
 returns c = cc
-
-wait-at-requires : tie.Need-wait-at-requires
-wait-at-requires c κs = search needs
-
-interrupt-requires : tie.Need-interrupt-requires
-interrupt-requires c κs = search needs
 
 returns-2 : tie.Need-returns-2
 unfolding arrived
 returns-2 c = simp (ne-eqb _ _ (c .before .before .before .before .if1 .left)) (cc)
 
 pub arrival-spec : {M : Type 1} → statement M
-arrival-spec =
-    tie.close
-    (tie.spec arrival-zero-requires returns wait-at-requires interrupt-requires returns-2)
+arrival-spec = tie.close (tie.spec (λ c κs. search needs) returns (λ c κs. search needs) (λ c κs. search needs) returns-2)

@@ -7,23 +7,9 @@ use borrow.Author.Needs.{needs}
 use Rattle.events.proofs.arrival_zero.Statement.{statement}
 use Rattle.events.proofs.arrival_zero.Tie as tie
 
-side-at-requires : tie.Need-side-at-requires
-side-at-requires c κs = search needs
-
-wait-at-requires : tie.Need-wait-at-requires
-wait-at-requires c κs = search needs
-
-put-side-requires : tie.Need-put-side-requires
-put-side-requires c κs = search needs
-
-interrupt-requires : tie.Need-interrupt-requires
-interrupt-requires c κs = search needs
-
 returns : tie.Need-returns
 unfolding arrived
 returns c = let b = c .before .before in c .interrupt .ensures ∙ ap (λ (x : File). interrupting x In 0) (b .put-side .ensures ∙ λ t. withSide (b .before .before .wait-at .ensures t) 0 In (unstalled (b .before .before .before .before .side-at .ensures t)))
 
 pub arrival-zero-spec : {M : Type 1} → statement M
-arrival-zero-spec =
-    tie.close
-    (tie.spec side-at-requires wait-at-requires put-side-requires interrupt-requires returns)
+arrival-zero-spec = tie.close (tie.spec (λ c κs. search needs) (λ c κs. search needs) (λ c κs. search needs) (λ c κs. search needs) returns)

@@ -5,23 +5,9 @@ use borrow.Author.Needs.{needs}
 use Rattle.events.proofs.bus.Statement.{statement}
 use Rattle.events.proofs.bus.Tie as tie
 
-element-copy-out-raise : tie.Need-element-copy-out-raise
-element-copy-out-raise c = search needs
-
-bus-bit-requires : tie.Need-bus-bit-requires
-bus-bit-requires c κs = search needs
-
-raise-requires : tie.Need-raise-requires
-raise-requires c κs = search needs
-
-element-write-w : tie.Need-element-write-w
-element-write-w c = search needs
-
 returns : tie.Need-returns
 unfolding busRaised intrusb withIntrusb
 returns c = cc
 
 pub bus-spec : {M : Type 1} → statement M
-bus-spec =
-    tie.close
-    (tie.spec element-copy-out-raise bus-bit-requires raise-requires element-write-w returns)
+bus-spec = tie.close (tie.spec (λ c. search needs) (λ c κs. search needs) (λ c κs. search needs) (λ c. search needs) returns)

@@ -4,18 +4,6 @@ use borrow.Author.Needs.{needs}
 use Rattle.events.proofs.intr_of.Statement.{statement}
 use Rattle.events.proofs.intr_of.Tie as tie
 
-enum-told : tie.Need-enum-told
-enum-told c = search needs
-
-element-copy-out-result : tie.Need-element-copy-out-result
-element-copy-out-result c = search needs
-
-enum-told-2 : tie.Need-enum-told-2
-enum-told-2 c = search needs
-
-element-copy-out-result-2 : tie.Need-element-copy-out-result-2
-element-copy-out-result-2 c = search needs
-
 returns : tie.Need-returns
 unfolding intrOf
 returns c = cc
@@ -25,12 +13,4 @@ unfolding intrOf
 returns-2 c = cc
 
 pub intr-of-spec : {M : Type 1} → statement M
-intr-of-spec =
-    tie.close
-    (tie.spec
-    enum-told
-    element-copy-out-result
-    enum-told-2
-    element-copy-out-result-2
-    returns
-    returns-2)
+intr-of-spec = tie.close (tie.spec (λ c. search needs) (λ c. search needs) (λ c. search needs) (λ c. search needs) returns returns-2)

@@ -5,15 +5,9 @@ use borrow.Author.Needs.{needs}
 use Rattle.events.proofs.setup_end.Statement.{statement}
 use Rattle.events.proofs.setup_end.Tie as tie
 
-element-write-w : tie.Need-element-write-w
-element-write-w c = search needs
-
-interrupt-requires : tie.Need-interrupt-requires
-interrupt-requires c κs = search needs
-
 returns : tie.Need-returns
 unfolding setupEnded withSetupend
 returns c = cc
 
 pub setup-end-spec : {M : Type 1} → statement M
-setup-end-spec = tie.close (tie.spec element-write-w interrupt-requires returns)
+setup-end-spec = tie.close (tie.spec (λ c. search needs) (λ c κs. search needs) returns)

@@ -22,9 +22,6 @@ abbrev μ-loop : tie.MeasureT-loop
 loop-holds : tie.Need-loop-holds Inv-loop μ-loop
 loop-holds c = (paste-zero (now (c .args .dst)) 0 (now (c .args .src)), search needs, refl)
 
-shared-slice-read-dst : tie.Need-shared-slice-read-dst Inv-loop μ-loop
-shared-slice-read-dst c = search needs
-
 slice-write-dst : tie.Need-slice-write-dst Inv-loop μ-loop
 slice-write-dst c = omega arith
 
@@ -60,16 +57,5 @@ returns c =
     ∙ ap (λ (l : List ℕ). l ++ drop (0 + length (now (a .src))) (now (a .dst))) (take-length (now (a .src)))
 
 pub copy-in-spec : {M : Type 1} → statement M
-copy-in-spec =
-    tie.close
-    (tie.spec
-    Inv-loop
-    μ-loop
-    loop-holds
-    shared-slice-read-dst
-    slice-write-dst
-    add-j
-    loop-less
-    loop-again
-    same-length
+copy-in-spec = tie.close (tie.spec Inv-loop μ-loop loop-holds (λ c. search needs) slice-write-dst add-j loop-less loop-again same-length
     returns)

@@ -5,12 +5,9 @@ use borrow.Author.Needs.{needs}
 use Rattle.host.proofs.bus_reset.Statement.{statement}
 use Rattle.host.proofs.bus_reset.Tie as tie
 
-on-signal-requires : tie.Need-on-signal-requires
-on-signal-requires c κs = search needs
-
 returns : tie.Need-returns
 unfolding busResetCall busReset
 returns c = c .on-signal .ensures
 
 pub bus-reset-spec : {M : Type 1} → statement M
-bus-reset-spec = tie.close (tie.spec on-signal-requires returns)
+bus-reset-spec = tie.close (tie.spec (λ c κs. search needs) returns)

@@ -5,12 +5,9 @@ use borrow.Author.Needs.{needs}
 use Rattle.host.proofs.miss.Statement.{statement}
 use Rattle.host.proofs.miss.Tie as tie
 
-miss-if-requires : tie.Need-miss-if-requires
-miss-if-requires c κs = search needs
-
 returns : tie.Need-returns
 unfolding missCall
 returns c = search (together, needs)
 
 pub miss-spec : {M : Type 1} → statement M
-miss-spec = tie.close (tie.spec miss-if-requires returns)
+miss-spec = tie.close (tie.spec (λ c κs. search needs) returns)

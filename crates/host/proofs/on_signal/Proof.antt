@@ -5,12 +5,9 @@ use borrow.Author.Needs.{needs}
 use Rattle.host.proofs.on_signal.Statement.{statement}
 use Rattle.host.proofs.on_signal.Tie as tie
 
-signal-if-requires : tie.Need-signal-if-requires
-signal-if-requires c κs = search needs
-
 returns : tie.Need-returns
 unfolding recordSound
 returns c = search (together, needs)
 
 pub on-signal-spec : {M : Type 1} → statement M
-on-signal-spec = tie.close (tie.spec signal-if-requires returns)
+on-signal-spec = tie.close (tie.spec (λ c κs. search needs) returns)

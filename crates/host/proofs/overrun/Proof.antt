@@ -4,12 +4,9 @@ use borrow.Author.Needs.{needs}
 use Rattle.host.proofs.overrun.Statement.{statement}
 use Rattle.host.proofs.overrun.Tie as tie
 
-miss-requires : tie.Need-miss-requires
-miss-requires c κs = search needs
-
 returns : tie.Need-returns
 unfolding overrunCall
 returns c = c .miss .ensures
 
 pub overrun-spec : {M : Type 1} → statement M
-overrun-spec = tie.close (tie.spec miss-requires returns)
+overrun-spec = tie.close (tie.spec (λ c κs. search needs) returns)

@@ -5,12 +5,9 @@ use borrow.Author.Needs.{needs}
 use Rattle.host.proofs.resume.Statement.{statement}
 use Rattle.host.proofs.resume.Tie as tie
 
-on-signal-requires : tie.Need-on-signal-requires
-on-signal-requires c κs = search needs
-
 returns : tie.Need-returns
 unfolding resumeCall busResume
 returns c = c .on-signal .ensures
 
 pub resume-spec : {M : Type 1} → statement M
-resume-spec = tie.close (tie.spec on-signal-requires returns)
+resume-spec = tie.close (tie.spec (λ c κs. search needs) returns)

@@ -5,12 +5,9 @@ use borrow.Author.Needs.{needs}
 use Rattle.host.proofs.suspend.Statement.{statement}
 use Rattle.host.proofs.suspend.Tie as tie
 
-on-signal-requires : tie.Need-on-signal-requires
-on-signal-requires c κs = search needs
-
 returns : tie.Need-returns
 unfolding suspendCall busSuspend
 returns c = c .on-signal .ensures
 
 pub suspend-spec : {M : Type 1} → statement M
-suspend-spec = tie.close (tie.spec on-signal-requires returns)
+suspend-spec = tie.close (tie.spec (λ c κs. search needs) returns)

@@ -4,12 +4,9 @@ use borrow.Author.Needs.{needs}
 use Rattle.host.proofs.underrun.Statement.{statement}
 use Rattle.host.proofs.underrun.Tie as tie
 
-miss-requires : tie.Need-miss-requires
-miss-requires c κs = search needs
-
 returns : tie.Need-returns
 unfolding underrunCall
 returns c = c .miss .ensures
 
 pub underrun-spec : {M : Type 1} → statement M
-underrun-spec = tie.close (tie.spec miss-requires returns)
+underrun-spec = tie.close (tie.spec (λ c κs. search needs) returns)

@@ -4,35 +4,12 @@ use borrow.Author.Needs.{needs}
 use Rattle.overrun.proofs.check_overrun.Statement.{statement}
 use Rattle.overrun.proofs.check_overrun.Tie as tie
 
-some-missed-requires : tie.Need-some-missed-requires
-some-missed-requires c κs = search needs
-
-repair-each-requires : tie.Need-repair-each-requires
-repair-each-requires c κs = search needs
-
-same-length : tie.Need-same-length
-same-length c = search needs
-
 returns : tie.Need-returns
 returns c = (something-missed _ _ (c .before .before .before .before .before .before .some-missed .ensures) (c .before .before .repair-each .ensures .0), search needs)
-
-select-each-requires : tie.Need-select-each-requires
-select-each-requires c κs = search needs
-
-same-length-2 : tie.Need-same-length-2
-same-length-2 c = search needs
 
 returns-2 : tie.Need-returns-2
 returns-2 c = (none-missed _ _ (c .before .before .before .before .before .before .some-missed .ensures) (c .before .before .before .before .before .before .before .before .before .pre .1) (c .before .before .before .before .before .if1 .left) (c .before .before .select-each .ensures .0), search needs)
 
 pub check-overrun-spec : {M : Type 1} → statement M
-check-overrun-spec =
-    tie.close
-    (tie.spec
-    some-missed-requires
-    repair-each-requires
-    same-length
-    returns
-    select-each-requires
-    same-length-2
-    returns-2)
+check-overrun-spec = tie.close (tie.spec (λ c κs. search needs) (λ c κs. search needs) (λ c. search needs) returns (λ c κs. search needs)
+    (λ c. search needs) returns-2)

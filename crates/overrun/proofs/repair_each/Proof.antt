@@ -24,9 +24,6 @@ write-index-requires c κs = let w = c .before .before .before .loop .inv in ome
 repair-requires : tie.Need-repair-requires Inv-loop μ-loop
 repair-requires c κs = let w = c .before .before .before .before .before .before .before .before .loop .inv in omega (arith, w .six, w .few, w .long, c .before .before .before .before .write-index .ensures .1, c .before .before .before .before .write-index .kept)
 
-add-index : tie.Need-add-index Inv-loop μ-loop
-add-index c = search needs
-
 loop-less : tie.Need-loop-less Inv-loop μ-loop
 loop-less c = omega arith
 
@@ -42,16 +39,5 @@ unfolding repairedBelow
 returns c = done _ _ _ _ _ (c .before .loop .inv) (c .loop-test .left)
 
 pub repair-each-spec : {M : Type 1} → statement M
-repair-each-spec =
-    tie.close
-    (tie.spec
-    Inv-loop
-    μ-loop
-    loop-holds
-    write-index-requires
-    repair-requires
-    add-index
-    loop-less
-    loop-again
-    same-length
-    returns)
+repair-each-spec = tie.close (tie.spec Inv-loop μ-loop loop-holds write-index-requires repair-requires (λ c. search needs) loop-less
+    loop-again same-length returns)

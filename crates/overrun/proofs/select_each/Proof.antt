@@ -20,9 +20,6 @@ loop-holds c = begin _ _ _ (c .before .pre .1)
 write-index-requires : tie.Need-write-index-requires Inv-loop μ-loop
 write-index-requires c κs = let w = c .before .before .before .loop .inv in omega (arith, w .six, w .few, w .long)
 
-add-e : tie.Need-add-e Inv-loop μ-loop
-add-e c = search needs
-
 loop-less : tie.Need-loop-less Inv-loop μ-loop
 loop-less c = omega arith
 
@@ -38,15 +35,5 @@ unfolding selectedBelow
 returns c = done _ _ _ _ _ (c .before .loop .inv) (c .loop-test .left)
 
 pub select-each-spec : {M : Type 1} → statement M
-select-each-spec =
-    tie.close
-    (tie.spec
-    Inv-loop
-    μ-loop
-    loop-holds
-    write-index-requires
-    add-e
-    loop-less
-    loop-again
-    same-length
+select-each-spec = tie.close (tie.spec Inv-loop μ-loop loop-holds write-index-requires (λ c. search needs) loop-less loop-again same-length
     returns)

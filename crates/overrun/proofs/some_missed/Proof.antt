@@ -18,12 +18,6 @@ abbrev μ-loop : tie.MeasureT-loop
 loop-holds : tie.Need-loop-holds Inv-loop μ-loop
 loop-holds c = (sym (missed-none _), omega arith)
 
-add-e : tie.Need-add-e Inv-loop μ-loop
-add-e c = search needs
-
-has-missed-requires : tie.Need-has-missed-requires Inv-loop μ-loop
-has-missed-requires c κs = search needs
-
 loop-less : tie.Need-loop-less Inv-loop μ-loop
 loop-less c = omega arith
 
@@ -34,6 +28,4 @@ returns : tie.Need-returns Inv-loop μ-loop
 returns c = let e : c .before .loop .e ≡ 5 = omega (arith, c .before .loop .inv .1) in c .before .loop .inv .0 ∙ ap (λ (n : ℕ). missedTo n (now (c .before .before .args .w))) e
 
 pub some-missed-spec : {M : Type 1} → statement M
-some-missed-spec =
-    tie.close
-    (tie.spec Inv-loop μ-loop loop-holds add-e has-missed-requires loop-less loop-again returns)
+some-missed-spec = tie.close (tie.spec Inv-loop μ-loop loop-holds (λ c. search needs) (λ c κs. search needs) loop-less loop-again returns)

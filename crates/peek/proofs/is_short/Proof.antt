@@ -3,12 +3,9 @@ use borrow.Author.Needs.{needs}
 use Rattle.peek.proofs.is_short.Statement.{statement}
 use Rattle.peek.proofs.is_short.Tie as tie
 
-need-requires : tie.Need-need-requires
-need-requires c κs = search needs
-
 returns : tie.Need-returns
 unfolding shortIn
 returns c = cc
 
 pub is-short-spec : {M : Type 1} → statement M
-is-short-spec = tie.close (tie.spec need-requires returns)
+is-short-spec = tie.close (tie.spec (λ c κs. search needs) returns)

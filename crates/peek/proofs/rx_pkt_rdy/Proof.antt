@@ -3,12 +3,9 @@ use borrow.Author.Needs.{needs}
 use Rattle.peek.proofs.rx_pkt_rdy.Statement.{statement}
 use Rattle.peek.proofs.rx_pkt_rdy.Tie as tie
 
-side-at-requires : tie.Need-side-at-requires
-side-at-requires c κs = search needs
-
 returns : tie.Need-returns
 unfolding rxPktRdy
 returns c = cc
 
 pub rx-pkt-rdy-spec : {M : Type 1} → statement M
-rx-pkt-rdy-spec = tie.close (tie.spec side-at-requires returns)
+rx-pkt-rdy-spec = tie.close (tie.spec (λ c κs. search needs) returns)

@@ -4,14 +4,8 @@ use borrow.Author.Needs.{needs}
 use Rattle.poll_walk.proofs.drain.Statement.{statement}
 use Rattle.poll_walk.proofs.drain.Tie as tie
 
-returns : tie.Need-returns
-returns c = search needs
-
-without-requires : tie.Need-without-requires
-without-requires c κs = search needs
-
 returns-2 : tie.Need-returns-2
 returns-2 c = (search drain-empty, search needs)
 
 pub drain-spec : {M : Type 1} → statement M
-drain-spec = tie.close (tie.spec returns without-requires returns-2)
+drain-spec = tie.close (tie.spec (λ c. search needs) (λ c κs. search needs) returns-2)

@@ -3,11 +3,8 @@ use borrow.Author.Needs.{needs}
 use Rattle.poll_walk.proofs.received.Statement.{statement}
 use Rattle.poll_walk.proofs.received.Tie as tie
 
-side-at-requires : tie.Need-side-at-requires
-side-at-requires c κs = search needs
-
 returns : tie.Need-returns
 returns c = cc
 
 pub received-spec : {M : Type 1} → statement M
-received-spec = tie.close (tie.spec side-at-requires returns)
+received-spec = tie.close (tie.spec (λ c κs. search needs) returns)

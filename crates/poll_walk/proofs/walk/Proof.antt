@@ -20,14 +20,8 @@ loop-holds c = begin _ _ (c .before .pre .0) (c .before .pre .0)
 lowest-requires : tie.Need-lowest-requires Inv-loop μ-loop
 lowest-requires c κs = (omega arith, search needs)
 
-without-requires : tie.Need-without-requires Inv-loop μ-loop
-without-requires c κs = search needs
-
 write-index-requires : tie.Need-write-index-requires Inv-loop μ-loop
 write-index-requires c κs = fits _ _ _ _ _ (c .before .before .before .before .before .loop .inv) (c .before .before .before .lowest .ensures) (c .before .before .before .before .before .before .before .pre .1)
-
-received-requires : tie.Need-received-requires Inv-loop μ-loop
-received-requires c κs = search needs
 
 drain-requires : tie.Need-drain-requires Inv-loop μ-loop
 drain-requires c κs = let w = c .before .before .before .before .before .before .before .before .before .before .loop .inv in (w .small, c .before .before .before .before .before .before .before .before .lowest .ensures .below, w .under)
@@ -46,18 +40,5 @@ unfolding walked
 returns c = done _ _ _ _ (c .before .loop .inv) (c .loop-test .left)
 
 pub walk-spec : {M : Type 1} → statement M
-walk-spec =
-    tie.close
-    (tie.spec
-    Inv-loop
-    μ-loop
-    loop-holds
-    lowest-requires
-    without-requires
-    write-index-requires
-    received-requires
-    drain-requires
-    loop-less
-    loop-again
-    same-length
-    returns)
+walk-spec = tie.close (tie.spec Inv-loop μ-loop loop-holds lowest-requires (λ c κs. search needs) write-index-requires
+    (λ c κs. search needs) drain-requires loop-less loop-again same-length returns)

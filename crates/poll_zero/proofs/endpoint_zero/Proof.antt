@@ -4,15 +4,6 @@ use borrow.Author.Needs.{needs}
 use Rattle.poll_zero.proofs.endpoint_zero.Statement.{statement}
 use Rattle.poll_zero.proofs.endpoint_zero.Tie as tie
 
-write-index-requires : tie.Need-write-index-requires
-write-index-requires c κs = search needs
-
-serve-zero-requires : tie.Need-serve-zero-requires
-serve-zero-requires c κs = search needs
-
-same-length : tie.Need-same-length
-same-length c = search needs
-
 returns : tie.Need-returns
 returns c = (search zero-up, search needs, search needs)
 
@@ -20,5 +11,4 @@ returns-2 : tie.Need-returns-2
 returns-2 c = (search zero-down, search needs, search needs)
 
 pub endpoint-zero-spec : {M : Type 1} → statement M
-endpoint-zero-spec =
-    tie.close (tie.spec write-index-requires serve-zero-requires same-length returns returns-2)
+endpoint-zero-spec = tie.close (tie.spec (λ c κs. search needs) (λ c κs. search needs) (λ c. search needs) returns returns-2)

@@ -5,12 +5,6 @@ use borrow.Author.Needs.{needs}
 use Rattle.poll_zero.proofs.put_back.Statement.{statement}
 use Rattle.poll_zero.proofs.put_back.Tie as tie
 
-has-bit-requires : tie.Need-has-bit-requires
-has-bit-requires c κs = search needs
-
-without-requires : tie.Need-without-requires
-without-requires c κs = search needs
-
 returns : tie.Need-returns
 unfolding putBack
 returns c = (rw (sym (c .before .before .has-bit .ensures) ∙ c .before .if1 .taken, c .without .ensures .0), c .without .ensures .1)
@@ -20,4 +14,4 @@ unfolding putBack
 returns-2 c = (rw (sym (c .before .has-bit .ensures) ∙ c .if1 .left), search needs)
 
 pub put-back-spec : {M : Type 1} → statement M
-put-back-spec = tie.close (tie.spec has-bit-requires without-requires returns returns-2)
+put-back-spec = tie.close (tie.spec (λ c κs. search needs) (λ c κs. search needs) returns returns-2)

@@ -5,12 +5,6 @@ use borrow.Author.Needs.{needs}
 use Rattle.poll_zero.proofs.sent.Statement.{statement}
 use Rattle.poll_zero.proofs.sent.Tie as tie
 
-enum-told : tie.Need-enum-told
-enum-told c = search needs
-
-raise-requires : tie.Need-raise-requires
-raise-requires c κs = search needs
-
 returns : tie.Need-returns
 unfolding sentBy
 returns c = (rw (c .before .enum-told .given .1, c .raise .ensures), search needs)
@@ -19,4 +13,4 @@ returns-2 : tie.Need-returns-2
 returns-2 c = (sent-other _ _ (c .match .keys2), search needs)
 
 pub sent-spec : {M : Type 1} → statement M
-sent-spec = tie.close (tie.spec enum-told raise-requires returns returns-2)
+sent-spec = tie.close (tie.spec (λ c. search needs) (λ c κs. search needs) returns returns-2)

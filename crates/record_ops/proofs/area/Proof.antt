@@ -5,12 +5,9 @@ use borrow.Author.Needs.{needs}
 use Rattle.record_ops.proofs.area.Statement.{statement}
 use Rattle.record_ops.proofs.area.Tie as tie
 
-area-requires : tie.Need-area-requires
-area-requires c κs = search needs
-
 returns : tie.Need-returns
 unfolding areaIn needIn
 returns c = (c .area .ensures .0, c .area .ensures .1, omega (arith, total-fits (c .before .args .b), c .area .ensures .1))
 
 pub area-spec : {M : Type 1} → statement M
-area-spec = tie.close (tie.spec area-requires returns)
+area-spec = tie.close (tie.spec (λ c κs. search needs) returns)

@@ -5,12 +5,9 @@ use borrow.Author.Needs.{needs}
 use Rattle.record_ops.proofs.endpoints.Statement.{statement}
 use Rattle.record_ops.proofs.endpoints.Tie as tie
 
-endpoints-requires : tie.Need-endpoints-requires
-endpoints-requires c κs = search needs
-
 returns : tie.Need-returns
 unfolding endpointsIn
 returns c = (c .endpoints .ensures, omega (arith, at-most-six (c .before .args .b), c .endpoints .ensures))
 
 pub endpoints-spec : {M : Type 1} → statement M
-endpoints-spec = tie.close (tie.spec endpoints-requires returns)
+endpoints-spec = tie.close (tie.spec (λ c κs. search needs) returns)

@@ -7,12 +7,6 @@ use borrow.Author.Needs.{needs}
 use Rattle.record_ops.proofs.flags_sound.Statement.{statement}
 use Rattle.record_ops.proofs.flags_sound.Tie as tie
 
-endpoints-requires : tie.Need-endpoints-requires
-endpoints-requires c κs = search needs
-
-cast-bound : tie.Need-cast-bound
-cast-bound c = search needs
-
 shl-bound : tie.Need-shl-bound
 shl-bound c = omega (arith, at-most-six (c .before .args .b), c .endpoints .ensures)
 
@@ -21,4 +15,4 @@ unfolding flagsSound _also_
 returns c = rw (shifted (c .before .before .endpoints .result) (omega (arith, at-most-six (c .before .before .before .args .b), c .before .before .endpoints .ensures)), c .before .before .endpoints .ensures)
 
 pub flags-sound-spec : {M : Type 1} → statement M
-flags-sound-spec = tie.close (tie.spec endpoints-requires cast-bound shl-bound returns)
+flags-sound-spec = tie.close (tie.spec (λ c κs. search needs) (λ c. search needs) shl-bound returns)

@@ -3,12 +3,9 @@ use borrow.Author.Needs.{needs}
 use Rattle.record_ops.proofs.need.Statement.{statement}
 use Rattle.record_ops.proofs.need.Tie as tie
 
-need-requires : tie.Need-need-requires
-need-requires c κs = search needs
-
 returns : tie.Need-returns
 unfolding needIn
 returns c = c .need .ensures
 
 pub need-spec : {M : Type 1} → statement M
-need-spec = tie.close (tie.spec need-requires returns)
+need-spec = tie.close (tie.spec (λ c κs. search needs) returns)

@@ -18,21 +18,6 @@ abbrev μ-loop : tie.MeasureT-loop
 loop-holds : tie.Need-loop-holds Inv-loop μ-loop
 loop-holds c = (sym (sides-none _ _), omega arith)
 
-mul-side-sound : tie.Need-mul-side-sound Inv-loop μ-loop
-mul-side-sound c = search needs
-
-element-copy-out-side-sound : tie.Need-element-copy-out-side-sound Inv-loop μ-loop
-element-copy-out-side-sound c = search needs
-
-side-in-requires : tie.Need-side-in-requires Inv-loop μ-loop
-side-in-requires c κs = search needs
-
-side-sound-requires : tie.Need-side-sound-requires Inv-loop μ-loop
-side-sound-requires c κs = search needs
-
-add-i : tie.Need-add-i Inv-loop μ-loop
-add-i c = search needs
-
 loop-less : tie.Need-loop-less Inv-loop μ-loop
 loop-less c = omega arith
 
@@ -44,17 +29,5 @@ returns : tie.Need-returns Inv-loop μ-loop
 returns c = let e : c .before .loop .i ≡ 12 = omega (arith, c .before .loop .inv .1) in c .before .loop .inv .0 ∙ ap (sidesBelow _ _) e
 
 pub sides-sound-spec : {M : Type 1} → statement M
-sides-sound-spec =
-    tie.close
-    (tie.spec
-    Inv-loop
-    μ-loop
-    loop-holds
-    mul-side-sound
-    element-copy-out-side-sound
-    side-in-requires
-    side-sound-requires
-    add-i
-    loop-less
-    loop-again
-    returns)
+sides-sound-spec = tie.close (tie.spec Inv-loop μ-loop loop-holds (λ c. search needs) (λ c. search needs) (λ c κs. search needs)
+    (λ c κs. search needs) (λ c. search needs) loop-less loop-again returns)

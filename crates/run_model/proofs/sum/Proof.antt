@@ -25,9 +25,6 @@ mul-c c = omega arith
 element-copy-out-wide : tie.Need-element-copy-out-wide Inv-loop μ-loop
 element-copy-out-wide c = omega arith
 
-wide-requires : tie.Need-wide-requires Inv-loop μ-loop
-wide-requires c κs = search needs
-
 cast-c : tie.Need-cast-c Inv-loop μ-loop
 cast-c c = omega arith
 
@@ -47,20 +44,5 @@ returns-3 : tie.Need-returns-3 Inv-loop μ-loop
 returns-3 c = omega arith
 
 pub sum-spec : {M : Type 1} → statement M
-sum-spec =
-    tie.close
-    (tie.spec
-    Inv-loop
-    μ-loop
-    returns
-    returns-2
-    loop-holds
-    mul-c
-    element-copy-out-wide
-    wide-requires
-    cast-c
-    add-c
-    add-i
-    loop-less
-    loop-again
-    returns-3)
+sum-spec = tie.close (tie.spec Inv-loop μ-loop returns returns-2 loop-holds mul-c element-copy-out-wide (λ c κs. search needs) cast-c add-c
+    add-i loop-less loop-again returns-3)

@@ -4,48 +4,10 @@ use borrow.Author.Needs.{needs}
 use Rattle.stores.proofs.modify_rxcsrl.Statement.{statement}
 use Rattle.stores.proofs.modify_rxcsrl.Tie as tie
 
-element-copy-out-e : tie.Need-element-copy-out-e
-element-copy-out-e c = search needs
-
-side-at-requires : tie.Need-side-at-requires
-side-at-requires c κs = search needs
-
-rxcsrl-of-requires : tie.Need-rxcsrl-of-requires
-rxcsrl-of-requires c κs = search needs
-
-rxcsrl-set-requires : tie.Need-rxcsrl-set-requires
-rxcsrl-set-requires c κs = search needs
-
-rx-stored-requires : tie.Need-rx-stored-requires
-rx-stored-requires c κs = search needs
-
-put-own-requires : tie.Need-put-own-requires
-put-own-requires c κs = search needs
-
-rxcsrl-number-requires : tie.Need-rxcsrl-number-requires
-rxcsrl-number-requires c κs = search needs
-
-note-requires : tie.Need-note-requires
-note-requires c κs = search needs
-
-same-length : tie.Need-same-length
-same-length c = search needs
-
 returns : tie.Need-returns
 unfolding modifyRxcsrl writeRxcsrl index
 returns c = (cc, cc)
 
 pub modify-rxcsrl-spec : {M : Type 1} → statement M
-modify-rxcsrl-spec =
-    tie.close
-    (tie.spec
-    element-copy-out-e
-    side-at-requires
-    rxcsrl-of-requires
-    rxcsrl-set-requires
-    rx-stored-requires
-    put-own-requires
-    rxcsrl-number-requires
-    note-requires
-    same-length
-    returns)
+modify-rxcsrl-spec = tie.close (tie.spec (λ c. search needs) (λ c κs. search needs) (λ c κs. search needs) (λ c κs. search needs)
+    (λ c κs. search needs) (λ c κs. search needs) (λ c κs. search needs) (λ c κs. search needs) (λ c. search needs) returns)

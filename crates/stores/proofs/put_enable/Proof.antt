@@ -3,18 +3,6 @@ use borrow.Author.Needs.{needs}
 use Rattle.stores.proofs.put_enable.Statement.{statement}
 use Rattle.stores.proofs.put_enable.Tie as tie
 
-enum-told : tie.Need-enum-told
-enum-told c = search needs
-
-element-write-w : tie.Need-element-write-w
-element-write-w c = search needs
-
-enum-told-2 : tie.Need-enum-told-2
-enum-told-2 c = search needs
-
-element-write-w-2 : tie.Need-element-write-w-2
-element-write-w-2 c = search needs
-
 returns : tie.Need-returns
 unfolding withEnabled
 returns c = cc
@@ -24,5 +12,4 @@ unfolding withEnabled
 returns-2 c = cc
 
 pub put-enable-spec : {M : Type 1} → statement M
-put-enable-spec =
-    tie.close (tie.spec enum-told element-write-w enum-told-2 element-write-w-2 returns returns-2)
+put-enable-spec = tie.close (tie.spec (λ c. search needs) (λ c. search needs) (λ c. search needs) (λ c. search needs) returns returns-2)

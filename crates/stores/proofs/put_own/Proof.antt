@@ -8,12 +8,9 @@ returns : tie.Need-returns
 unfolding withOwn
 returns c = rw (eq-eqb _ _ (c .if1 .taken))
 
-put-side-requires : tie.Need-put-side-requires
-put-side-requires c κs = search needs
-
 returns-2 : tie.Need-returns-2
 unfolding withOwn
 returns-2 c = rw (ne-eqb _ _ (c .before .before .if1 .left)) (c .put-side .ensures)
 
 pub put-own-spec : {M : Type 1} → statement M
-put-own-spec = tie.close (tie.spec returns put-side-requires returns-2)
+put-own-spec = tie.close (tie.spec returns (λ c κs. search needs) returns-2)

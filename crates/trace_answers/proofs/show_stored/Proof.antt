@@ -10,20 +10,11 @@ use borrow.Author.Needs.{needs}
 use Rattle.trace_answers.proofs.show_stored.Statement.{statement}
 use Rattle.trace_answers.proofs.show_stored.Tie as tie
 
-least-requires : tie.Need-least-requires
-least-requires c κs = search needs
-
-cast-counted-line : tie.Need-cast-counted-line
-cast-counted-line c = search needs
-
 slice-aggregate-counted-line : tie.Need-slice-aggregate-counted-line
 slice-aggregate-counted-line c = sym (length-take-le _ _ (c .before .before .least .ensures .1))
 
 counted-line-requires : tie.Need-counted-line-requires
 counted-line-requires c κs = omega (arith, length-take (c .before .before .least .result) (now (c .before .before .before .before .before .args .buf)))
-
-same-length : tie.Need-same-length
-same-length c = search needs
 
 returns : tie.Need-returns
 returns c =
@@ -32,12 +23,5 @@ returns c =
     stored _ _ _ (l .0) (d .counted-line .ensures .0) (d .counted-line .ensures .1) (search needs)
 
 pub show-stored-spec : {M : Type 1} → statement M
-show-stored-spec =
-    tie.close
-    (tie.spec
-    least-requires
-    cast-counted-line
-    slice-aggregate-counted-line
-    counted-line-requires
-    same-length
-    returns)
+show-stored-spec = tie.close (tie.spec (λ c κs. search needs) (λ c. search needs) slice-aggregate-counted-line counted-line-requires
+    (λ c. search needs) returns)

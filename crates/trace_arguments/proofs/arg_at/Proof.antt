@@ -5,14 +5,8 @@ use borrow.Author.Needs.{needs}
 use Rattle.trace_arguments.proofs.arg_at.Statement.{statement}
 use Rattle.trace_arguments.proofs.arg_at.Tie as tie
 
-number-from-requires : tie.Need-number-from-requires
-number-from-requires c κs = search needs
-
-in-range-requires : tie.Need-in-range-requires
-in-range-requires c κs = search needs
-
 returns : tie.Need-returns
 returns c = arg-is _ _ _ _ (c .before .number-from .ensures) (c .in-range .ensures)
 
 pub arg-at-spec : {M : Type 1} → statement M
-arg-at-spec = tie.close (tie.spec number-from-requires in-range-requires returns)
+arg-at-spec = tie.close (tie.spec (λ c κs. search needs) (λ c κs. search needs) returns)

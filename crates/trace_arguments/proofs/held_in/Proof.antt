@@ -5,17 +5,5 @@ use borrow.Author.Needs.{needs}
 use Rattle.trace_arguments.proofs.held_in.Statement.{statement}
 use Rattle.trace_arguments.proofs.held_in.Tie as tie
 
-sub-if1 : tie.Need-sub-if1
-sub-if1 c = search needs
-
-returns : tie.Need-returns
-returns c = search (held-cut, needs)
-
-add-t5 : tie.Need-add-t5
-add-t5 c = search needs
-
-returns-2 : tie.Need-returns-2
-returns-2 c = search (held-all, needs)
-
 pub held-in-spec : {M : Type 1} → statement M
-held-in-spec = tie.close (tie.spec sub-if1 returns add-t5 returns-2)
+held-in-spec = tie.close (tie.spec (λ c. search needs) (λ c. search (held-cut, needs)) (λ c. search needs) (λ c. search (held-all, needs)))

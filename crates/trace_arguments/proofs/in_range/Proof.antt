@@ -5,20 +5,6 @@ use borrow.Author.Needs.{needs}
 use Rattle.trace_arguments.proofs.in_range.Statement.{statement}
 use Rattle.trace_arguments.proofs.in_range.Tie as tie
 
-enum-known-n : tie.Need-enum-known-n
-enum-known-n c = search needs
-
-enum-told : tie.Need-enum-told
-enum-told c = search needs
-
-returns : tie.Need-returns
-returns c = search (range-ok, needs)
-
-returns-2 : tie.Need-returns-2
-returns-2 c = search (range-over, needs)
-
-returns-3 : tie.Need-returns-3
-returns-3 c = search needs
-
 pub in-range-spec : {M : Type 1} → statement M
-in-range-spec = tie.close (tie.spec enum-known-n enum-told returns returns-2 returns-3)
+in-range-spec = tie.close (tie.spec (λ c. search needs) (λ c. search needs) (λ c. search (range-ok, needs))
+    (λ c. search (range-over, needs)) (λ c. search needs))

@@ -53,18 +53,5 @@ returns : tie.Need-returns Inv-loop μ-loop
 returns c = (endpoints-all _ _ (c .before .loop .i) (omega arith) (c .before .loop .inv .1), omega arith)
 
 pub put-endpoints-spec : {M : Type 1} → statement M
-put-endpoints-spec =
-    tie.close
-    (tie.spec
-    Inv-loop
-    μ-loop
-    loop-holds
-    mul-put-endpoint
-    array-copy-out-put-endpoint
-    cast-put-endpoint
-    put-endpoint-requires
-    add-i
-    loop-less
-    loop-again
-    same-length
-    returns)
+put-endpoints-spec = tie.close (tie.spec Inv-loop μ-loop loop-holds mul-put-endpoint array-copy-out-put-endpoint cast-put-endpoint
+    put-endpoint-requires add-i loop-less loop-again same-length returns)

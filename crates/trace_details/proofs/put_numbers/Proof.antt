@@ -19,45 +19,15 @@ abbrev μ-loop : tie.MeasureT-loop
 loop-holds : tie.Need-loop-holds Inv-loop μ-loop
 loop-holds c = (omega arith, fields-none (c .before .before .args .s .now), omega arith, omega arith)
 
-mul-put-field : tie.Need-mul-put-field Inv-loop μ-loop
-mul-put-field c = search needs
-
-shared-slice-read-put-field : tie.Need-shared-slice-read-put-field Inv-loop μ-loop
-shared-slice-read-put-field c = search needs
-
-put-field-requires : tie.Need-put-field-requires Inv-loop μ-loop
-put-field-requires c κs = search needs
-
-add-i : tie.Need-add-i Inv-loop μ-loop
-add-i c = search needs
-
-loop-less : tie.Need-loop-less Inv-loop μ-loop
-loop-less c = search needs
-
 loop-again : tie.Need-loop-again Inv-loop μ-loop
 loop-again c =
     let l = c .before .before .before .before .before .before .loop in
     let w = c .before .before .put-field .ensures in
     (omega arith, fields-more (c .before .before .before .before .before .before .before .before .before .args .s .now) (l .i) _ (omega arith) refl (l .inv .1) (w .0), omega (arith, w .1), omega (arith, kept (w .0)))
 
-same-length : tie.Need-same-length Inv-loop μ-loop
-same-length c = search needs
-
 returns : tie.Need-returns Inv-loop μ-loop
 returns c = (fields-all _ (c .before .loop .i) (omega arith) (omega arith) (c .before .loop .inv .1), omega arith)
 
 pub put-numbers-spec : {M : Type 1} → statement M
-put-numbers-spec =
-    tie.close
-    (tie.spec
-    Inv-loop
-    μ-loop
-    loop-holds
-    mul-put-field
-    shared-slice-read-put-field
-    put-field-requires
-    add-i
-    loop-less
-    loop-again
-    same-length
-    returns)
+put-numbers-spec = tie.close (tie.spec Inv-loop μ-loop loop-holds (λ c. search needs) (λ c. search needs) (λ c κs. search needs)
+    (λ c. search needs) (λ c. search needs) loop-again (λ c. search needs) returns)

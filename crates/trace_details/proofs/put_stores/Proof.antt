@@ -21,81 +21,17 @@ abbrev μ-loop : tie.MeasureT-loop
 loop-holds : tie.Need-loop-holds Inv-loop μ-loop
 loop-holds c = (omega arith, stores-none _, omega arith, omega arith)
 
-mul-put-store : tie.Need-mul-put-store Inv-loop μ-loop
-mul-put-store c = search needs
-
-mul-put-store-2 : tie.Need-mul-put-store-2 Inv-loop μ-loop
-mul-put-store-2 c = search needs
-
-shared-slice-read-put-store : tie.Need-shared-slice-read-put-store Inv-loop μ-loop
-shared-slice-read-put-store c = search needs
-
-mul-put-store-3 : tie.Need-mul-put-store-3 Inv-loop μ-loop
-mul-put-store-3 c = search needs
-
-add-put-store : tie.Need-add-put-store Inv-loop μ-loop
-add-put-store c = search needs
-
-mul-put-store-4 : tie.Need-mul-put-store-4 Inv-loop μ-loop
-mul-put-store-4 c = search needs
-
-shared-slice-read-put-store-2 : tie.Need-shared-slice-read-put-store-2 Inv-loop μ-loop
-shared-slice-read-put-store-2 c = search needs
-
-mul-put-store-5 : tie.Need-mul-put-store-5 Inv-loop μ-loop
-mul-put-store-5 c = search needs
-
-add-put-store-2 : tie.Need-add-put-store-2 Inv-loop μ-loop
-add-put-store-2 c = search needs
-
-mul-put-store-6 : tie.Need-mul-put-store-6 Inv-loop μ-loop
-mul-put-store-6 c = search needs
-
-shared-slice-read-put-store-3 : tie.Need-shared-slice-read-put-store-3 Inv-loop μ-loop
-shared-slice-read-put-store-3 c = search needs
-
-put-store-requires : tie.Need-put-store-requires Inv-loop μ-loop
-put-store-requires c κs = search needs
-
-add-i : tie.Need-add-i Inv-loop μ-loop
-add-i c = search needs
-
-loop-less : tie.Need-loop-less Inv-loop μ-loop
-loop-less c = search needs
-
 loop-again : tie.Need-loop-again Inv-loop μ-loop
 loop-again c =
     let l = c .before .before .before .before .before .before .before .before .loop in
     let w = c .before .before .put-store .ensures in
     (omega arith, stores-more _ (l .i) (l .inv .1) (w .0), omega (arith, w .1), omega (arith, kept (w .0)))
 
-same-length : tie.Need-same-length Inv-loop μ-loop
-same-length c = search needs
-
 returns : tie.Need-returns Inv-loop μ-loop
 returns c = (stores-all _ (c .before .loop .i) (omega arith) (c .before .loop .inv .1), omega arith)
 
 pub put-stores-spec : {M : Type 1} → statement M
-put-stores-spec =
-    tie.close
-    (tie.spec
-    Inv-loop
-    μ-loop
-    loop-holds
-    mul-put-store
-    mul-put-store-2
-    shared-slice-read-put-store
-    mul-put-store-3
-    add-put-store
-    mul-put-store-4
-    shared-slice-read-put-store-2
-    mul-put-store-5
-    add-put-store-2
-    mul-put-store-6
-    shared-slice-read-put-store-3
-    put-store-requires
-    add-i
-    loop-less
-    loop-again
-    same-length
+put-stores-spec = tie.close (tie.spec Inv-loop μ-loop loop-holds (λ c. search needs) (λ c. search needs) (λ c. search needs)
+    (λ c. search needs) (λ c. search needs) (λ c. search needs) (λ c. search needs) (λ c. search needs) (λ c. search needs)
+    (λ c. search needs) (λ c. search needs) (λ c κs. search needs) (λ c. search needs) (λ c. search needs) loop-again (λ c. search needs)
     returns)

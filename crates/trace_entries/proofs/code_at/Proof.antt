@@ -7,39 +7,6 @@ use borrow.Author.Needs.{needs}
 use Rattle.trace_entries.proofs.code_at.Statement.{statement}
 use Rattle.trace_entries.proofs.code_at.Tie as tie
 
-allocate-at-requires : tie.Need-allocate-at-requires
-allocate-at-requires c κs = search needs
-
-address-at-requires : tie.Need-address-at-requires
-address-at-requires c κs = search needs
-
-write-at-requires : tie.Need-write-at-requires
-write-at-requires c κs = search needs
-
-read-at-requires : tie.Need-read-at-requires
-read-at-requires c κs = search needs
-
-stall-at-requires : tie.Need-stall-at-requires
-stall-at-requires c κs = search needs
-
-is-stalled-at-requires : tie.Need-is-stalled-at-requires
-is-stalled-at-requires c κs = search needs
-
-arrival-at-requires : tie.Need-arrival-at-requires
-arrival-at-requires c κs = search needs
-
-collect-at-requires : tie.Need-collect-at-requires
-collect-at-requires c κs = search needs
-
-bus-at-requires : tie.Need-bus-at-requires
-bus-at-requires c κs = search needs
-
-underrun-at-requires : tie.Need-underrun-at-requires
-underrun-at-requires c κs = search needs
-
-overrun-at-requires : tie.Need-overrun-at-requires
-overrun-at-requires c κs = search needs
-
 returns : tie.Need-returns
 unfolding codeAt
 returns c = arm _ _ _ 1 (c .before .match .keys1) (c .allocate-at .ensures)
@@ -112,35 +79,7 @@ returns-18 : tie.Need-returns-18
 returns-18 c = let q = c .match .rest in unknown _ _ _ (q .0 .0 .0 .0 .0 .0 .0 .0 .0 .0 .0 .0 .0 .0 .0 .0 .1) (q .0 .0 .0 .0 .0 .0 .0 .0 .0 .0 .0 .0 .0 .0 .0 .1) (q .0 .0 .0 .0 .0 .0 .0 .0 .0 .0 .0 .0 .0 .0 .1) (q .0 .0 .0 .0 .0 .0 .0 .0 .0 .0 .0 .0 .0 .1) (q .0 .0 .0 .0 .0 .0 .0 .0 .0 .0 .0 .0 .1) (q .0 .0 .0 .0 .0 .0 .0 .0 .0 .0 .0 .1) (q .0 .0 .0 .0 .0 .0 .0 .0 .0 .0 .1) (q .0 .0 .0 .0 .0 .0 .0 .0 .0 .1) (q .0 .0 .0 .0 .0 .0 .0 .0 .1) (q .0 .0 .0 .0 .0 .0 .0 .1) (q .0 .0 .0 .0 .0 .0 .1) (q .0 .0 .0 .0 .0 .1) (q .0 .0 .0 .0 .1) (q .0 .0 .0 .1) (q .0 .0 .1) (q .0 .1) (q .1)
 
 pub code-at-spec : {M : Type 1} → statement M
-code-at-spec =
-    tie.close
-    (tie.spec
-    allocate-at-requires
-    address-at-requires
-    write-at-requires
-    read-at-requires
-    stall-at-requires
-    is-stalled-at-requires
-    arrival-at-requires
-    collect-at-requires
-    bus-at-requires
-    underrun-at-requires
-    overrun-at-requires
-    returns
-    returns-2
-    returns-3
-    returns-4
-    returns-5
-    returns-6
-    returns-7
-    returns-8
-    returns-9
-    returns-10
-    returns-11
-    returns-12
-    returns-13
-    returns-14
-    returns-15
-    returns-16
-    returns-17
-    returns-18)
+code-at-spec = tie.close (tie.spec (λ c κs. search needs) (λ c κs. search needs) (λ c κs. search needs) (λ c κs. search needs)
+    (λ c κs. search needs) (λ c κs. search needs) (λ c κs. search needs) (λ c κs. search needs) (λ c κs. search needs)
+    (λ c κs. search needs) (λ c κs. search needs) returns returns-2 returns-3 returns-4 returns-5 returns-6 returns-7 returns-8 returns-9
+    returns-10 returns-11 returns-12 returns-13 returns-14 returns-15 returns-16 returns-17 returns-18)

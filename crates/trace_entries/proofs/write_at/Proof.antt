@@ -5,20 +5,6 @@ use borrow.Author.Needs.{needs}
 use Rattle.trace_entries.proofs.write_at.Statement.{statement}
 use Rattle.trace_entries.proofs.write_at.Tie as tie
 
-packet-at-requires : tie.Need-packet-at-requires
-packet-at-requires c κs = search needs
-
-enum-known-e : tie.Need-enum-known-e
-enum-known-e c = search needs
-
-enum-told : tie.Need-enum-told
-enum-told c = search needs
-
-returns : tie.Need-returns
-returns c = search (write-is, needs)
-
-returns-2 : tie.Need-returns-2
-returns-2 c = search (write-bad, needs)
-
 pub write-at-spec : {M : Type 1} → statement M
-write-at-spec = tie.close (tie.spec packet-at-requires enum-known-e enum-told returns returns-2)
+write-at-spec = tie.close (tie.spec (λ c κs. search needs) (λ c. search needs) (λ c. search needs) (λ c. search (write-is, needs))
+    (λ c. search (write-bad, needs)))

@@ -5,12 +5,9 @@ use borrow.Author.Needs.{needs}
 use Rattle.trace_given.proofs.truth.Statement.{statement}
 use Rattle.trace_given.proofs.truth.Tie as tie
 
-long-requires : tie.Need-long-requires
-long-requires c κs = search needs
-
 returns : tie.Need-returns
 unfolding truthAt
 returns c = cc
 
 pub truth-spec : {M : Type 1} → statement M
-truth-spec = tie.close (tie.spec long-requires returns)
+truth-spec = tie.close (tie.spec (λ c κs. search needs) returns)

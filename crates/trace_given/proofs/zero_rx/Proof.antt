@@ -5,14 +5,8 @@ use borrow.Author.Needs.{needs}
 use Rattle.trace_given.proofs.zero_rx.Statement.{statement}
 use Rattle.trace_given.proofs.zero_rx.Tie as tie
 
-has-bit-requires : tie.Need-has-bit-requires
-has-bit-requires c κs = search needs
-
-word-requires : tie.Need-word-requires
-word-requires c κs = search needs
-
 returns : tie.Need-returns
 returns c = zero-rx-done _ (c .before .before .before .pre) (c .before .has-bit .ensures) (c .word .ensures)
 
 pub zero-rx-spec : {M : Type 1} → statement M
-zero-rx-spec = tie.close (tie.spec has-bit-requires word-requires returns)
+zero-rx-spec = tie.close (tie.spec (λ c κs. search needs) (λ c κs. search needs) returns)

@@ -1,7 +1,7 @@
 -- `trace_reader::two_from` meets its contract: a walk of its MIR, by hand. The `TraceReader` that `reader_at` returns is kept in a local, passed to `next` and to `advance`, and what `advance` returns is passed to `next` again. All that the proof knows of these is that each meets its contract.
 -- The struct is Copy: what it owns is had twice, for `next` and for `advance`.
 -- Assumes nothing.
-use mathlib.Core.Path.{_≡_, refl, ap, _∙_}
+use mathlib.Core.Path.{_≡_, refl, _∙_}
 use Prim.Native.Nat.{ℕ, _<_, _^_}
 use mathlib.Core.List.{List, [], _∷_}
 use lib.ListN.{length}

@@ -8,18 +8,6 @@ use borrow.Author.Needs.{needs}
 use Rattle.trace_report.proofs.bytes_line.Statement.{statement}
 use Rattle.trace_report.proofs.bytes_line.Tie as tie
 
-begin-requires : tie.Need-begin-requires
-begin-requires c κs = search needs
-
-put-fields-requires : tie.Need-put-fields-requires
-put-fields-requires c κs = search needs
-
-put-requires : tie.Need-put-requires
-put-requires c κs = search needs
-
-same-length : tie.Need-same-length
-same-length c = search needs
-
 returns : tie.Need-returns
 returns c =
     let a = c .before .before .before .before .before .before .before .before .before .before .before .before .before .before .args in
@@ -27,5 +15,4 @@ returns c =
     (ends _ all (c .before .before .put .ensures), omega (arith, c .before .before .put .ensures .count))
 
 pub bytes-line-spec : {M : Type 1} → statement M
-bytes-line-spec =
-    tie.close (tie.spec begin-requires put-fields-requires put-requires same-length returns)
+bytes-line-spec = tie.close (tie.spec (λ c κs. search needs) (λ c κs. search needs) (λ c κs. search needs) (λ c. search needs) returns)

@@ -6,17 +6,8 @@ use borrow.Author.Needs.{needs}
 use Rattle.trace_report.proofs.reply_line.Statement.{statement}
 use Rattle.trace_report.proofs.reply_line.Tie as tie
 
-begin-requires : tie.Need-begin-requires
-begin-requires c κs = search needs
-
-put-requires : tie.Need-put-requires
-put-requires c κs = search needs
-
-same-length : tie.Need-same-length
-same-length c = search needs
-
 returns : tie.Need-returns
 returns c = (ends _ (c .before .before .before .before .before .before .begin .ensures .0) (c .before .before .put .ensures), omega (arith, c .before .before .put .ensures .count))
 
 pub reply-line-spec : {M : Type 1} → statement M
-reply-line-spec = tie.close (tie.spec begin-requires put-requires same-length returns)
+reply-line-spec = tie.close (tie.spec (λ c κs. search needs) (λ c κs. search needs) (λ c. search needs) returns)

@@ -7,18 +7,6 @@ use borrow.Author.Needs.{needs}
 use Rattle.trace_report.proofs.value_line.Statement.{statement}
 use Rattle.trace_report.proofs.value_line.Tie as tie
 
-begin-requires : tie.Need-begin-requires
-begin-requires c κs = search needs
-
-put-field-requires : tie.Need-put-field-requires
-put-field-requires c κs = search needs
-
-put-requires : tie.Need-put-requires
-put-requires c κs = search needs
-
-same-length : tie.Need-same-length
-same-length c = search needs
-
 returns : tie.Need-returns
 returns c =
     let a = c .before .before .before .before .before .before .before .before .before .before .before .before .before .args in
@@ -26,5 +14,4 @@ returns c =
     (ends _ values (c .before .before .put .ensures), omega (arith, c .before .before .put .ensures .count))
 
 pub value-line-spec : {M : Type 1} → statement M
-value-line-spec =
-    tie.close (tie.spec begin-requires put-field-requires put-requires same-length returns)
+value-line-spec = tie.close (tie.spec (λ c κs. search needs) (λ c κs. search needs) (λ c κs. search needs) (λ c. search needs) returns)

@@ -9,14 +9,5 @@ use Rattle.trace_reporter.proofs.put.Tie as tie
 slice-aggregate-write-all : tie.Need-slice-aggregate-write-all
 slice-aggregate-write-all c = sym (length-take-le _ _ (c .before .before .before .pre .0))
 
-write-all-requires : tie.Need-write-all-requires
-write-all-requires c κs = search needs
-
-add-done : tie.Need-add-done
-add-done c = search needs
-
-returns : tie.Need-returns
-returns c = search needs
-
 pub put-spec : {M : Type 1} → statement M
-put-spec = tie.close (tie.spec slice-aggregate-write-all write-all-requires add-done returns)
+put-spec = tie.close (tie.spec slice-aggregate-write-all (λ c κs. search needs) (λ c. search needs) (λ c. search needs))

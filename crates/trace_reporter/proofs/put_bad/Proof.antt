@@ -6,20 +6,11 @@ use borrow.Author.Needs.{needs}
 use Rattle.trace_reporter.proofs.put_bad.Statement.{statement}
 use Rattle.trace_reporter.proofs.put_bad.Tie as tie
 
-bad-line-requires : tie.Need-bad-line-requires
-bad-line-requires c κs = search needs
-
 put-requires : tie.Need-put-requires
 put-requires c κs =
     let e = c .before .before .before .before .bad-line .ensures in
     let p = c .before .before .before .before .before .before .before .before .pre in
     (search needs, omega (arith, e .1, p .1), from-front _ _ _ (e .0) (omega (arith, e .1, p .0)) (p .2 .has))
 
-same-length : tie.Need-same-length
-same-length c = search needs
-
-returns : tie.Need-returns
-returns c = search needs
-
 pub put-bad-spec : {M : Type 1} → statement M
-put-bad-spec = tie.close (tie.spec bad-line-requires put-requires same-length returns)
+put-bad-spec = tie.close (tie.spec (λ c κs. search needs) put-requires (λ c. search needs) (λ c. search needs))

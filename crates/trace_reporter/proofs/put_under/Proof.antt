@@ -9,11 +9,5 @@ use Rattle.trace_reporter.proofs.put_under.Tie as tie
 slice-aggregate-write-all : tie.Need-slice-aggregate-write-all
 slice-aggregate-write-all c = sym (length-take-le _ _ (c .before .before .before .pre .1))
 
-write-all-requires : tie.Need-write-all-requires
-write-all-requires c κs = search needs
-
-returns : tie.Need-returns
-returns c = search needs
-
 pub put-under-spec : {M : Type 1} → statement M
-put-under-spec = tie.close (tie.spec slice-aggregate-write-all write-all-requires returns)
+put-under-spec = tie.close (tie.spec slice-aggregate-write-all (λ c κs. search needs) (λ c. search needs))

@@ -7,29 +7,8 @@ use borrow.Author.Needs.{needs}
 use Rattle.trace_step.proofs.step.Statement.{statement}
 use Rattle.trace_step.proofs.step.Tie as tie
 
-entry-at-requires : tie.Need-entry-at-requires
-entry-at-requires c κs = search needs
-
-enum-known-p : tie.Need-enum-known-p
-enum-known-p c = search needs
-
 act-requires : tie.Need-act-requires
 act-requires c κs = (c .before .before .before .before .before .before .before .before .before .before .before .pre, within _ _ _ _ _ (c .before .before .before .before .before .before .entry-at .ensures) (c .before .before .before .before .p .given .1))
-
-enum-told : tie.Need-enum-told
-enum-told c = search needs
-
-enum-told-2 : tie.Need-enum-told-2
-enum-told-2 c = search needs
-
-same-length : tie.Need-same-length
-same-length c = search needs
-
-same-length-2 : tie.Need-same-length-2
-same-length-2 c = search needs
-
-same-length-3 : tie.Need-same-length-3
-same-length-3 c = search needs
 
 returns : tie.Need-returns
 returns c = (carried-out _ _ _ _ _ _ _ (c .before .before .before .before .before .before .before .before .before .before .before .before .before .before .entry-at .ensures) (c .before .before .before .before .before .before .before .before .before .before .before .before .p .given .1) (c .before .before .before .before .before .before .before .act .ensures), moves-on _ _ (now (c .before .before .before .before .before .before .before .before .before .before .before .before .before .before .before .before .before .before .before .args .line)) _ (c .before .before .before .before .before .before .before .before .before .before .before .before .before .before .entry-at .ensures) (c .before .before .before .before .before .before .before .before .before .before .before .before .p .given .1) (c .before .before .before .before .before .before .before .act .ensures .shown .fits))
@@ -41,17 +20,5 @@ returns-3 : tie.Need-returns-3
 returns-3 c = (at-bad _ _ _ _ _ _ _ (c .before .before .entry-at .ensures) (c .enum-told2 .given .1), tt)
 
 pub step-spec : {M : Type 1} → statement M
-step-spec =
-    tie.close
-    (tie.spec
-    entry-at-requires
-    enum-known-p
-    act-requires
-    enum-told
-    enum-told-2
-    same-length
-    same-length-2
-    same-length-3
-    returns
-    returns-2
-    returns-3)
+step-spec = tie.close (tie.spec (λ c κs. search needs) (λ c. search needs) act-requires (λ c. search needs) (λ c. search needs)
+    (λ c. search needs) (λ c. search needs) (λ c. search needs) returns returns-2 returns-3)

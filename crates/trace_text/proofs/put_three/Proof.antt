@@ -6,22 +6,8 @@ use borrow.Author.Needs.{needs}
 use Rattle.trace_text.proofs.put_three.Statement.{statement}
 use Rattle.trace_text.proofs.put_three.Tie as tie
 
-put-field-requires : tie.Need-put-field-requires
-put-field-requires c κs = search needs
-
-put-field-requires-2 : tie.Need-put-field-requires-2
-put-field-requires-2 c κs = search needs
-
-put-field-requires-3 : tie.Need-put-field-requires-3
-put-field-requires-3 c κs = search needs
-
-same-length : tie.Need-same-length
-same-length c = search needs
-
 returns : tie.Need-returns
 returns c = (three-fields _ _ _ (c .before .before .before .before .before .before .before .before .before .before .put-field .ensures .0) (c .before .before .before .before .before .before .put-field2 .ensures .0) (c .before .before .put-field3 .ensures .0), omega arith)
 
 pub put-three-spec : {M : Type 1} → statement M
-put-three-spec =
-    tie.close
-    (tie.spec put-field-requires put-field-requires-2 put-field-requires-3 same-length returns)
+put-three-spec = tie.close (tie.spec (λ c κs. search needs) (λ c κs. search needs) (λ c κs. search needs) (λ c. search needs) returns)

@@ -3,12 +3,6 @@ use borrow.Author.Needs.{needs}
 use Rattle.usb_device_alloc.proofs.handed_on.Statement.{statement}
 use Rattle.usb_device_alloc.proofs.handed_on.Tie as tie
 
-enum-known-a : tie.Need-enum-known-a
-enum-known-a c = search needs
-
-enum-known-a-2 : tie.Need-enum-known-a-2
-enum-known-a-2 c = search needs
-
 returns : tie.Need-returns
 returns c = cc
 
@@ -16,4 +10,4 @@ returns-2 : tie.Need-returns-2
 returns-2 c = cc
 
 pub handed-on-spec : {M : Type 1} → statement M
-handed-on-spec = tie.close (tie.spec enum-known-a enum-known-a-2 returns returns-2)
+handed-on-spec = tie.close (tie.spec (λ c. search needs) (λ c. search needs) returns returns-2)

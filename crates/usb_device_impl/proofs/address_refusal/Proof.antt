@@ -4,15 +4,6 @@ use borrow.Author.Needs.{needs}
 use Rattle.usb_device_impl.proofs.address_refusal.Statement.{statement}
 use Rattle.usb_device_impl.proofs.address_refusal.Tie as tie
 
-admit-requires : tie.Need-admit-requires
-admit-requires c κs = search needs
-
-enum-known-t : tie.Need-enum-known-t
-enum-known-t c = search needs
-
-enum-told : tie.Need-enum-told
-enum-told c = search needs
-
 returns : tie.Need-returns
 returns c = (search (address-fits, needs), λ e. c .before .before .before .admit .ensures .1 (c .before .enum-told .given .1))
 
@@ -23,5 +14,4 @@ returns-3 : tie.Need-returns-3
 returns-3 c = (search (address-over, needs), never)
 
 pub address-refusal-spec : {M : Type 1} → statement M
-address-refusal-spec =
-    tie.close (tie.spec admit-requires enum-known-t enum-told returns returns-2 returns-3)
+address-refusal-spec = tie.close (tie.spec (λ c κs. search needs) (λ c. search needs) (λ c. search needs) returns returns-2 returns-3)

@@ -6,11 +6,8 @@ use borrow.Author.Needs.{needs}
 use Rattle.usb_device_impl.proofs.admit.Statement.{statement}
 use Rattle.usb_device_impl.proofs.admit.Tie as tie
 
-admit-requires : tie.Need-admit-requires
-admit-requires c κs = search needs
-
 returns : tie.Need-returns
 returns c = (c .admit .ensures, room (c .before .args .numbers) (passes (c .before .args .b) (now (c .before .args .w)) (c .before .args .f)) (c .before .args .beyond) (c .admit .ensures))
 
 pub admit-spec : {M : Type 1} → statement M
-admit-spec = tie.close (tie.spec admit-requires returns)
+admit-spec = tie.close (tie.spec (λ c κs. search needs) returns)

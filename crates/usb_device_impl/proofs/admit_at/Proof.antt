@@ -3,14 +3,8 @@ use borrow.Author.Needs.{needs}
 use Rattle.usb_device_impl.proofs.admit_at.Statement.{statement}
 use Rattle.usb_device_impl.proofs.admit_at.Tie as tie
 
-endpoints-requires : tie.Need-endpoints-requires
-endpoints-requires c κs = search needs
-
-admit-requires : tie.Need-admit-requires
-admit-requires c κs = search needs
-
 returns : tie.Need-returns
 returns c = rw (← c .before .endpoints .ensures .0) (c .admit .ensures)
 
 pub admit-at-spec : {M : Type 1} → statement M
-admit-at-spec = tie.close (tie.spec endpoints-requires admit-requires returns)
+admit-at-spec = tie.close (tie.spec (λ c κs. search needs) (λ c κs. search needs) returns)

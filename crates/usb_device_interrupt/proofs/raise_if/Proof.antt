@@ -5,12 +5,6 @@ use borrow.Author.Needs.{needs}
 use Rattle.usb_device_interrupt.proofs.raise_if.Statement.{statement}
 use Rattle.usb_device_interrupt.proofs.raise_if.Tie as tie
 
-has-bit-requires : tie.Need-has-bit-requires
-has-bit-requires c κs = search needs
-
-raise-requires : tie.Need-raise-requires
-raise-requires c κs = search needs
-
 returns : tie.Need-returns
 unfolding raisedIf
 returns c = rw (sym (c .before .before .has-bit .ensures) ∙ c .before .if1 .taken) (c .raise .ensures)
@@ -20,4 +14,4 @@ unfolding raisedIf
 returns-2 c = rw (sym (c .before .has-bit .ensures) ∙ c .if1 .left)
 
 pub raise-if-spec : {M : Type 1} → statement M
-raise-if-spec = tie.close (tie.spec has-bit-requires raise-requires returns returns-2)
+raise-if-spec = tie.close (tie.spec (λ c κs. search needs) (λ c κs. search needs) returns returns-2)

@@ -14,9 +14,6 @@ Inv-loop count s o₀ index₀ o index = Taking s o₀ count o index
 abbrev μ-loop : tie.MeasureT-loop
 μ-loop count s o₀ index₀ o index = count - index
 
-take-bus-requires : tie.Need-take-bus-requires Inv-loop μ-loop
-take-bus-requires c κs = search needs
-
 loop-holds : tie.Need-loop-holds Inv-loop μ-loop
 loop-holds c = begin _ _ _ (c .before .pre)
 
@@ -37,15 +34,5 @@ unfolding taken
 returns c = done _ _ _ _ _ (c .before .loop .inv) (c .loop-test .left) ∙ ap (endpointsTaken _ _) (c .before .before .take-bus .ensures)
 
 pub take-spec : {M : Type 1} → statement M
-take-spec =
-    tie.close
-    (tie.spec
-    Inv-loop
-    μ-loop
-    take-bus-requires
-    loop-holds
-    take-endpoint-requires
-    add-index
-    loop-less
-    loop-again
+take-spec = tie.close (tie.spec Inv-loop μ-loop (λ c κs. search needs) loop-holds take-endpoint-requires add-index loop-less loop-again
     returns)

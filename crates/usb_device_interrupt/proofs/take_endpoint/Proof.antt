@@ -4,15 +4,9 @@ use borrow.Author.Needs.{needs}
 use Rattle.usb_device_interrupt.proofs.take_endpoint.Statement.{statement}
 use Rattle.usb_device_interrupt.proofs.take_endpoint.Tie as tie
 
-raise-if-requires : tie.Need-raise-if-requires
-raise-if-requires c κs = search needs
-
-raise-if-requires-2 : tie.Need-raise-if-requires-2
-raise-if-requires-2 c κs = search needs
-
 returns : tie.Need-returns
 unfolding endpointTaken
 returns c = rw (c .raise-if2 .ensures, c .before .raise-if .ensures)
 
 pub take-endpoint-spec : {M : Type 1} → statement M
-take-endpoint-spec = tie.close (tie.spec raise-if-requires raise-if-requires-2 returns)
+take-endpoint-spec = tie.close (tie.spec (λ c κs. search needs) (λ c κs. search needs) returns)

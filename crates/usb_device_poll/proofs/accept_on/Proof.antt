@@ -4,17 +4,8 @@ use borrow.Author.Needs.{needs}
 use Rattle.usb_device_poll.proofs.accept_on.Statement.{statement}
 use Rattle.usb_device_poll.proofs.accept_on.Tie as tie
 
-accept-requires : tie.Need-accept-requires
-accept-requires c κs = search needs
-
-walk-on-requires : tie.Need-walk-on-requires
-walk-on-requires c κs = search needs
-
-same-length : tie.Need-same-length
-same-length c = search needs
-
 returns : tie.Need-returns
 returns c = accepted-on _ (c .before .before .before .before .before .before .before .accept .ensures .0) (c .before .before .walk-on .ensures)
 
 pub accept-on-spec : {M : Type 1} → statement M
-accept-on-spec = tie.close (tie.spec accept-requires walk-on-requires same-length returns)
+accept-on-spec = tie.close (tie.spec (λ c κs. search needs) (λ c κs. search needs) (λ c. search needs) returns)

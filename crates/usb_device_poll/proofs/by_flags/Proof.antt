@@ -4,51 +4,18 @@ use borrow.Author.Needs.{needs}
 use Rattle.usb_device_poll.proofs.by_flags.Statement.{statement}
 use Rattle.usb_device_poll.proofs.by_flags.Tie as tie
 
-reset-down-requires : tie.Need-reset-down-requires
-reset-down-requires c κs = search needs
-
-answer-requires : tie.Need-answer-requires
-answer-requires c κs = search needs
-
 returns : tie.Need-returns
 returns c = resets _ _ _ (c .before .before .if1 .taken) (c .before .reset-down .ensures) (c .answer .ensures)
-
-answer-requires-2 : tie.Need-answer-requires-2
-answer-requires-2 c κs = search needs
 
 returns-2 : tie.Need-returns-2
 returns-2 c = resumes _ _ _ (c .before .before .if1 .left) (c .before .if2 .taken) (c .answer2 .ensures)
 
-reset-down-requires-2 : tie.Need-reset-down-requires-2
-reset-down-requires-2 c κs = search needs
-
-answer-requires-3 : tie.Need-answer-requires-3
-answer-requires-3 c κs = search needs
-
 returns-3 : tie.Need-returns-3
 returns-3 c = suspends _ _ _ (c .before .before .before .before .if1 .left) (c .before .before .before .if2 .left) (c .before .before .if3 .taken) (c .before .reset-down2 .ensures) (c .answer3 .ensures)
-
-round-requires : tie.Need-round-requires
-round-requires c κs = search needs
-
-same-length : tie.Need-same-length
-same-length c = search needs
 
 returns-4 : tie.Need-returns-4
 returns-4 c = goes-round _ _ _ (c .before .before .before .before .before .before .before .if1 .left) (c .before .before .before .before .before .before .if2 .left) (c .before .before .before .before .before .if3 .left) (c .before .before .round .ensures)
 
 pub by-flags-spec : {M : Type 1} → statement M
-by-flags-spec =
-    tie.close
-    (tie.spec
-    reset-down-requires
-    answer-requires
-    returns
-    answer-requires-2
-    returns-2
-    reset-down-requires-2
-    answer-requires-3
-    returns-3
-    round-requires
-    same-length
-    returns-4)
+by-flags-spec = tie.close (tie.spec (λ c κs. search needs) (λ c κs. search needs) returns (λ c κs. search needs) returns-2
+    (λ c κs. search needs) (λ c κs. search needs) returns-3 (λ c κs. search needs) (λ c. search needs) returns-4)

@@ -5,18 +5,9 @@ use borrow.Author.Needs.{needs}
 use Rattle.usb_device_poll.proofs.round.Statement.{statement}
 use Rattle.usb_device_poll.proofs.round.Tie as tie
 
-endpoint-zero-requires : tie.Need-endpoint-zero-requires
-endpoint-zero-requires c κs = search needs
-
-accept-on-requires : tie.Need-accept-on-requires
-accept-on-requires c κs = search needs
-
-same-length : tie.Need-same-length
-same-length c = search needs
-
 returns : tie.Need-returns
 unfolding roundOut
 returns c = c .before .before .accept-on .ensures ∙ ap acceptedOn (c .before .before .before .before .before .before .before .endpoint-zero .ensures .0)
 
 pub round-spec : {M : Type 1} → statement M
-round-spec = tie.close (tie.spec endpoint-zero-requires accept-on-requires same-length returns)
+round-spec = tie.close (tie.spec (λ c κs. search needs) (λ c κs. search needs) (λ c. search needs) returns)

@@ -5,9 +5,6 @@ use borrow.Author.Needs.{needs}
 use Rattle.usb_device_poll.proofs.tell.Statement.{statement}
 use Rattle.usb_device_poll.proofs.tell.Tie as tie
 
-setup-mask-requires : tie.Need-setup-mask-requires
-setup-mask-requires c κs = search needs
-
 returns : tie.Need-returns
 returns c = told-data _ _ _ (c .if1 .taken) (c .before .setup-mask .ensures)
 
@@ -16,4 +13,4 @@ unfolding told
 returns-2 c = rw (c .if1 .left)
 
 pub tell-spec : {M : Type 1} → statement M
-tell-spec = tie.close (tie.spec setup-mask-requires returns returns-2)
+tell-spec = tie.close (tie.spec (λ c κs. search needs) returns returns-2)

@@ -6,22 +6,11 @@ use borrow.Author.Needs.{needs}
 use Rattle.usb_device_read.proofs.after_setup.Statement.{statement}
 use Rattle.usb_device_read.proofs.after_setup.Tie as tie
 
-set-state-requires : tie.Need-set-state-requires
-set-state-requires c κs = search needs
-
-set-tx-len-requires : tie.Need-set-tx-len-requires
-set-tx-len-requires c κs = search needs
-
 returns : tie.Need-returns
 returns c = rw (c .before .before .if1 .taken) (c .set-tx-len .ensures ∙ ap (λ (d : ControlState). withTxLen d (c .before .before .before .args .n)) (c .before .set-state .ensures))
-
-set-state-requires-2 : tie.Need-set-state-requires-2
-set-state-requires-2 c κs = search needs
 
 returns-2 : tie.Need-returns-2
 returns-2 c = rw (c .before .if1 .left) cc
 
 pub after-setup-spec : {M : Type 1} → statement M
-after-setup-spec =
-    tie.close
-    (tie.spec set-state-requires set-tx-len-requires returns set-state-requires-2 returns-2)
+after-setup-spec = tie.close (tie.spec (λ c κs. search needs) (λ c κs. search needs) returns (λ c κs. search needs) returns-2)

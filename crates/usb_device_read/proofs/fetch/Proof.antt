@@ -5,25 +5,12 @@ use borrow.Author.Needs.{needs}
 use Rattle.usb_device_read.proofs.fetch.Statement.{statement}
 use Rattle.usb_device_read.proofs.fetch.Tie as tie
 
-rx-count-requires : tie.Need-rx-count-requires
-rx-count-requires c κs = search needs
-
-cast-n : tie.Need-cast-n
-cast-n c = search needs
-
-area-requires : tie.Need-area-requires
-area-requires c κs = search needs
-
 take-bytes-requires : tie.Need-take-bytes-requires
 take-bytes-requires c κs = let d = c .before .before .before .before .before in (area-fits (d .args .b) (d .args .ep) (c .before .area .ensures .0) (c .before .before .rx-count .ensures) (d .pre .0), search needs)
-
-same-length : tie.Need-same-length
-same-length c = search needs
 
 returns : tie.Need-returns
 returns c = let a = c .before .before .before .before .before .before .before .before .args in (c .before .before .before .before .before .rx-count .ensures, copied-by (a .b) (a .ep) (c .before .before .before .before .area .ensures .0) _ (now (a .buf)) (now (a .fifo)) (c .before .before .take-bytes .ensures))
 
 pub fetch-spec : {M : Type 1} → statement M
-fetch-spec =
-    tie.close
-    (tie.spec rx-count-requires cast-n area-requires take-bytes-requires same-length returns)
+fetch-spec = tie.close (tie.spec (λ c κs. search needs) (λ c. search needs) (λ c κs. search needs) take-bytes-requires (λ c. search needs)
+    returns)

@@ -4,12 +4,9 @@ use borrow.Author.Needs.{needs}
 use Rattle.usb_device_read.proofs.not_readable.Statement.{statement}
 use Rattle.usb_device_read.proofs.not_readable.Tie as tie
 
-unreadable-in-requires : tie.Need-unreadable-in-requires
-unreadable-in-requires c κs = search needs
-
 returns : tie.Need-returns
 unfolding notReadable
 returns c = cc
 
 pub not-readable-spec : {M : Type 1} → statement M
-not-readable-spec = tie.close (tie.spec unreadable-in-requires returns)
+not-readable-spec = tie.close (tie.spec (λ c κs. search needs) returns)

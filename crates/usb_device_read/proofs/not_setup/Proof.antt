@@ -4,15 +4,9 @@ use borrow.Author.Needs.{needs}
 use Rattle.usb_device_read.proofs.not_setup.Statement.{statement}
 use Rattle.usb_device_read.proofs.not_setup.Tie as tie
 
-rx-count-requires : tie.Need-rx-count-requires
-rx-count-requires c κs = search needs
-
-not-setup-in-requires : tie.Need-not-setup-in-requires
-not-setup-in-requires c κs = search needs
-
 returns : tie.Need-returns
 unfolding notSetup
 returns c = cc
 
 pub not-setup-spec : {M : Type 1} → statement M
-not-setup-spec = tie.close (tie.spec rx-count-requires not-setup-in-requires returns)
+not-setup-spec = tie.close (tie.spec (λ c κs. search needs) (λ c κs. search needs) returns)

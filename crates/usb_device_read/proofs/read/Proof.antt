@@ -6,26 +6,10 @@ use borrow.Author.Needs.{needs}
 use Rattle.usb_device_read.proofs.read.Statement.{statement}
 use Rattle.usb_device_read.proofs.read.Tie as tie
 
-array-copy-out-zero : tie.Need-array-copy-out-zero
-array-copy-out-zero c = search needs
-
-cast-read-by : tie.Need-cast-read-by
-cast-read-by c = search needs
-
-read-by-requires : tie.Need-read-by-requires
-read-by-requires c κs = search needs
-
-same-length : tie.Need-same-length
-same-length c = search needs
-
-same-length-2 : tie.Need-same-length-2
-same-length-2 c = search needs
-
 returns : tie.Need-returns
 unfolding readCall rxSize
 returns c = ap (outcome (c .before .before .before .before .before .before .before .before .before .before .before .before .before .before .before .before .before .before .before .before .args .k)) (c .before .before .before .before .before .before .before .read-by .ensures)
 
 pub read-spec : {M : Type 1} → statement M
-read-spec =
-    tie.close
-    (tie.spec array-copy-out-zero cast-read-by read-by-requires same-length same-length-2 returns)
+read-spec = tie.close (tie.spec (λ c. search needs) (λ c. search needs) (λ c κs. search needs) (λ c. search needs) (λ c. search needs)
+    returns)

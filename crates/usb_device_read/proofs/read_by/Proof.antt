@@ -8,35 +8,14 @@ use borrow.Author.Needs.{needs}
 use Rattle.usb_device_read.proofs.read_by.Statement.{statement}
 use Rattle.usb_device_read.proofs.read_by.Tie as tie
 
-refusal-requires : tie.Need-refusal-requires
-refusal-requires c κs = search needs
-
-enum-told : tie.Need-enum-told
-enum-told c = search needs
-
 take-requires : tie.Need-take-requires
 take-requires c κs = let a = c .before .before .before .before .before .before .before .before .before .before .args in clear-fits (a .b) (now (a .w)) (a .c) (a .f) (a .ep) (length (now (a .buf))) (length (now (a .fifo))) (length (now (a .list))) (c .before .before .before .before .before .refusal .ensures) (c .before .before .before .enum-told .given .1)
-
-enum-told-2 : tie.Need-enum-told-2
-enum-told-2 c = search needs
 
 block-requires : tie.Need-block-requires
 block-requires c κs = let a = c .before .before .before .before .before .before .before .before .before .args in omega (arith, blocked-fits (a .b) (now (a .w)) (a .c) (a .f) (a .ep) (length (now (a .buf))) (length (now (a .fifo))) (length (now (a .list))) (c .before .before .before .before .refusal .ensures) (c .before .before .enum-told2 .given .1))
 
-enum-known-v : tie.Need-enum-known-v
-enum-known-v c = search needs
-
-same-length : tie.Need-same-length
-same-length c = search needs
-
-same-length-2 : tie.Need-same-length-2
-same-length-2 c = search needs
-
 returns : tie.Need-returns
 returns c = let d = c .before .before .before .before .before .before .before .before in let a = d .before .before .before .before .before .before .before .args in call-clear (a .b) (now (a .w)) (a .c) (a .f) (a .size) (a .ep) (now (a .buf)) (now (a .fifo)) (now (a .list)) (d .before .before .refusal .ensures) (d .enum-told .given .1) (c .before .before .before .before .take .ensures)
-
-same-length-3 : tie.Need-same-length-3
-same-length-3 c = search needs
 
 returns-2 : tie.Need-returns-2
 returns-2 c = let d = c .before .before .before .before .before in let a = d .before .before .before .before .before .before .before .args in call-blocked (a .b) (now (a .w)) (a .c) (a .f) (a .size) (a .ep) (now (a .buf)) (now (a .fifo)) (now (a .list)) (d .before .before .refusal .ensures) (d .enum-told2 .given .1) (c .before .before .block .ensures)
@@ -45,18 +24,5 @@ returns-3 : tie.Need-returns-3
 returns-3 c = let a = c .before .before .before .before .before .before .before .before .args in call-refused (a .b) (now (a .w)) (a .c) (a .f) (a .size) (a .ep) (now (a .buf)) (now (a .fifo)) (now (a .list)) (c .before .before .before .refusal .ensures) _ (c .before .v .given .1)
 
 pub read-by-spec : {M : Type 1} → statement M
-read-by-spec =
-    tie.close
-    (tie.spec
-    refusal-requires
-    enum-told
-    take-requires
-    enum-told-2
-    block-requires
-    enum-known-v
-    same-length
-    same-length-2
-    returns
-    same-length-3
-    returns-2
-    returns-3)
+read-by-spec = tie.close (tie.spec (λ c κs. search needs) (λ c. search needs) take-requires (λ c. search needs) block-requires
+    (λ c. search needs) (λ c. search needs) (λ c. search needs) returns (λ c. search needs) returns-2 returns-3)

@@ -6,14 +6,8 @@ use borrow.Author.Needs.{needs}
 use Rattle.usb_device_read.proofs.read_other.Statement.{statement}
 use Rattle.usb_device_read.proofs.read_other.Tie as tie
 
-modify-rxcsrl-requires : tie.Need-modify-rxcsrl-requires
-modify-rxcsrl-requires c κs = search needs
-
-same-length : tie.Need-same-length
-same-length c = search needs
-
 returns : tie.Need-returns
 returns c = let a = c .before .before .before .before .before .before .args in other-by (a .c) (a .f) (log (now (a .w)) (now (a .list)) (a .n)) (c .before .before .modify-rxcsrl .ensures .0)
 
 pub read-other-spec : {M : Type 1} → statement M
-read-other-spec = tie.close (tie.spec modify-rxcsrl-requires same-length returns)
+read-other-spec = tie.close (tie.spec (λ c κs. search needs) (λ c. search needs) returns)

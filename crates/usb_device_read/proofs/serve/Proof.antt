@@ -6,25 +6,11 @@ use borrow.Author.Needs.{needs}
 use Rattle.usb_device_read.proofs.serve.Statement.{statement}
 use Rattle.usb_device_read.proofs.serve.Tie as tie
 
-read-zero-requires : tie.Need-read-zero-requires
-read-zero-requires c κs = search needs
-
-same-length : tie.Need-same-length
-same-length c = search needs
-
 returns : tie.Need-returns
 returns c = let a = c .before .before .before .before .before .before .before .before .args in zero-got (a .ep) (now (a .buf)) (a .count) (a .size) (a .c) (a .f) (log (now (a .w)) (now (a .list)) (a .n)) (c .before .before .before .before .before .if1 .taken) (c .before .before .read-zero .ensures)
-
-read-other-requires : tie.Need-read-other-requires
-read-other-requires c κs = search needs
-
-same-length-2 : tie.Need-same-length-2
-same-length-2 c = search needs
 
 returns-2 : tie.Need-returns-2
 returns-2 c = let a = c .before .before .before .before .before .before .before .before .args in other-got (a .ep) (now (a .buf)) (a .count) (a .size) (a .c) (a .f) (log (now (a .w)) (now (a .list)) (a .n)) (c .before .before .before .before .before .if1 .left) (c .before .before .read-other .ensures)
 
 pub serve-spec : {M : Type 1} → statement M
-serve-spec =
-    tie.close
-    (tie.spec read-zero-requires same-length returns read-other-requires same-length-2 returns-2)
+serve-spec = tie.close (tie.spec (λ c κs. search needs) (λ c. search needs) returns (λ c κs. search needs) (λ c. search needs) returns-2)

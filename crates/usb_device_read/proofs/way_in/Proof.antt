@@ -4,12 +4,9 @@ use borrow.Author.Needs.{needs}
 use Rattle.usb_device_read.proofs.way_in.Statement.{statement}
 use Rattle.usb_device_read.proofs.way_in.Tie as tie
 
-byte-at-requires : tie.Need-byte-at-requires
-byte-at-requires c κs = search needs
-
 returns : tie.Need-returns
 unfolding wayIn
 returns c = cc
 
 pub way-in-spec : {M : Type 1} → statement M
-way-in-spec = tie.close (tie.spec byte-at-requires returns)
+way-in-spec = tie.close (tie.spec (λ c κs. search needs) returns)

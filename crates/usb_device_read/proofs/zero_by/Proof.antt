@@ -6,50 +6,8 @@ use borrow.Author.Needs.{needs}
 use Rattle.usb_device_read.proofs.zero_by.Statement.{statement}
 use Rattle.usb_device_read.proofs.zero_by.Tie as tie
 
-enum-told : tie.Need-enum-told
-enum-told c = search needs
-
-set-up-requires : tie.Need-set-up-requires
-set-up-requires c κs = search needs
-
-enum-told-2 : tie.Need-enum-told-2
-enum-told-2 c = search needs
-
-data-out-requires : tie.Need-data-out-requires
-data-out-requires c κs = search needs
-
-enum-told-3 : tie.Need-enum-told-3
-enum-told-3 c = search needs
-
-leave-requires : tie.Need-leave-requires
-leave-requires c κs = search needs
-
-enum-told-4 : tie.Need-enum-told-4
-enum-told-4 c = search needs
-
-leave-requires-2 : tie.Need-leave-requires-2
-leave-requires-2 c κs = search needs
-
-enum-told-5 : tie.Need-enum-told-5
-enum-told-5 c = search needs
-
-leave-requires-3 : tie.Need-leave-requires-3
-leave-requires-3 c κs = search needs
-
-enum-told-6 : tie.Need-enum-told-6
-enum-told-6 c = search needs
-
-leave-requires-4 : tie.Need-leave-requires-4
-leave-requires-4 c κs = search needs
-
-same-length : tie.Need-same-length
-same-length c = search needs
-
 returns : tie.Need-returns
 returns c = let a = c .before .before .before .before .before .before .before .before .before .args in by-state (a .c) (a .f) (log (now (a .w)) (now (a .list)) (a .n)) (now (a .buf)) (a .count) (a .size) _ (c .before .before .before .before .before .enum-told .given .1) (c .before .before .set-up .ensures)
-
-same-length-2 : tie.Need-same-length-2
-same-length-2 c = search needs
 
 returns-2 : tie.Need-returns-2
 returns-2 c = let a = c .before .before .before .before .before .before .before .before .before .args in by-state (a .c) (a .f) (log (now (a .w)) (now (a .list)) (a .n)) (now (a .buf)) (a .count) (a .size) _ (c .before .before .before .before .before .enum-told2 .given .1) (c .before .before .data-out .ensures)
@@ -67,26 +25,6 @@ returns-6 : tie.Need-returns-6
 returns-6 c = let a = c .before .before .before .before .before .args in by-state (a .c) (a .f) (log (now (a .w)) (now (a .list)) (a .n)) (now (a .buf)) (a .count) (a .size) _ (c .before .enum-told6 .given .1) (left-by _ _ (c .leave4 .ensures))
 
 pub zero-by-spec : {M : Type 1} → statement M
-zero-by-spec =
-    tie.close
-    (tie.spec
-    enum-told
-    set-up-requires
-    enum-told-2
-    data-out-requires
-    enum-told-3
-    leave-requires
-    enum-told-4
-    leave-requires-2
-    enum-told-5
-    leave-requires-3
-    enum-told-6
-    leave-requires-4
-    same-length
-    returns
-    same-length-2
-    returns-2
-    returns-3
-    returns-4
-    returns-5
-    returns-6)
+zero-by-spec = tie.close (tie.spec (λ c. search needs) (λ c κs. search needs) (λ c. search needs) (λ c κs. search needs) (λ c. search needs)
+    (λ c κs. search needs) (λ c. search needs) (λ c κs. search needs) (λ c. search needs) (λ c κs. search needs) (λ c. search needs)
+    (λ c κs. search needs) (λ c. search needs) returns (λ c. search needs) returns-2 returns-3 returns-4 returns-5 returns-6)

@@ -16,20 +16,8 @@ abbrev μ-loop : tie.MeasureT-loop
 loop-holds : tie.Need-loop-holds Inv-loop μ-loop
 loop-holds c = begin _ _ _
 
-cast-i : tie.Need-cast-i Inv-loop μ-loop
-cast-i c = search needs
-
-mul-ep : tie.Need-mul-ep Inv-loop μ-loop
-mul-ep c = search needs
-
-array-copy-out-ep : tie.Need-array-copy-out-ep Inv-loop μ-loop
-array-copy-out-ep c = search needs
-
 enable-used-requires : tie.Need-enable-used-requires Inv-loop μ-loop
 enable-used-requires c κs = (omega (arith, c .before .before .before .before .before .before .pre .0), omega (arith, c .before .before .before .before .before .before .pre .0, c .before .before .before .before .before .before .pre .1, c .before .before .before .before .loop .inv .few, c .before .before .before .before .loop .inv .long))
-
-add-index : tie.Need-add-index Inv-loop μ-loop
-add-index c = search needs
 
 loop-less : tie.Need-loop-less Inv-loop μ-loop
 loop-less c = omega arith
@@ -44,18 +32,5 @@ returns : tie.Need-returns Inv-loop μ-loop
 returns c = end _ _ _ _ _ (c .before .loop .inv) (c .loop-test .left)
 
 pub enable-below-spec : {M : Type 1} → statement M
-enable-below-spec =
-    tie.close
-    (tie.spec
-    Inv-loop
-    μ-loop
-    loop-holds
-    cast-i
-    mul-ep
-    array-copy-out-ep
-    enable-used-requires
-    add-index
-    loop-less
-    loop-again
-    same-length
-    returns)
+enable-below-spec = tie.close (tie.spec Inv-loop μ-loop loop-holds (λ c. search needs) (λ c. search needs) (λ c. search needs)
+    enable-used-requires (λ c. search needs) loop-less loop-again same-length returns)

@@ -4,12 +4,6 @@ use borrow.Author.Needs.{needs}
 use Rattle.usb_device_reset.proofs.enable_rx.Statement.{statement}
 use Rattle.usb_device_reset.proofs.enable_rx.Tie as tie
 
-ep-rx-enable-requires : tie.Need-ep-rx-enable-requires
-ep-rx-enable-requires c κs = search needs
-
-same-length : tie.Need-same-length
-same-length c = search needs
-
 returns : tie.Need-returns
 returns c = (search (rx-used, needs), search needs)
 
@@ -17,4 +11,4 @@ returns-2 : tie.Need-returns-2
 returns-2 c = (search (rx-unused, needs), search needs)
 
 pub enable-rx-spec : {M : Type 1} → statement M
-enable-rx-spec = tie.close (tie.spec ep-rx-enable-requires same-length returns returns-2)
+enable-rx-spec = tie.close (tie.spec (λ c κs. search needs) (λ c. search needs) returns returns-2)

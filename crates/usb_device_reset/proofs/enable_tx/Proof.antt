@@ -4,12 +4,6 @@ use borrow.Author.Needs.{needs}
 use Rattle.usb_device_reset.proofs.enable_tx.Statement.{statement}
 use Rattle.usb_device_reset.proofs.enable_tx.Tie as tie
 
-ep-tx-enable-requires : tie.Need-ep-tx-enable-requires
-ep-tx-enable-requires c κs = search needs
-
-same-length : tie.Need-same-length
-same-length c = search needs
-
 returns : tie.Need-returns
 returns c = (search (tx-used, needs), search needs)
 
@@ -17,4 +11,4 @@ returns-2 : tie.Need-returns-2
 returns-2 c = (search (tx-unused, needs), search needs)
 
 pub enable-tx-spec : {M : Type 1} → statement M
-enable-tx-spec = tie.close (tie.spec ep-tx-enable-requires same-length returns returns-2)
+enable-tx-spec = tie.close (tie.spec (λ c κs. search needs) (λ c. search needs) returns returns-2)

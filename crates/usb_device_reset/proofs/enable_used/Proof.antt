@@ -4,17 +4,8 @@ use borrow.Author.Needs.{needs}
 use Rattle.usb_device_reset.proofs.enable_used.Statement.{statement}
 use Rattle.usb_device_reset.proofs.enable_used.Tie as tie
 
-enable-tx-requires : tie.Need-enable-tx-requires
-enable-tx-requires c κs = search needs
-
-enable-rx-requires : tie.Need-enable-rx-requires
-enable-rx-requires c κs = search needs
-
-same-length : tie.Need-same-length
-same-length c = search needs
-
 returns : tie.Need-returns
 returns c = (search (both, needs), search needs)
 
 pub enable-used-spec : {M : Type 1} → statement M
-enable-used-spec = tie.close (tie.spec enable-tx-requires enable-rx-requires same-length returns)
+enable-used-spec = tie.close (tie.spec (λ c κs. search needs) (λ c κs. search needs) (λ c. search needs) returns)

@@ -4,9 +4,6 @@ use borrow.Author.Needs.{needs}
 use Rattle.usb_device_stall.proofs.after_stall.Statement.{statement}
 use Rattle.usb_device_stall.proofs.after_stall.Tie as tie
 
-idle-requires : tie.Need-idle-requires
-idle-requires c κs = search needs
-
 returns : tie.Need-returns
 unfolding afterStall
 returns c = rw (c .before .if1 .taken) (c .idle .ensures)
@@ -16,4 +13,4 @@ unfolding afterStall
 returns-2 c = rw (c .if1 .left)
 
 pub after-stall-spec : {M : Type 1} → statement M
-after-stall-spec = tie.close (tie.spec idle-requires returns returns-2)
+after-stall-spec = tie.close (tie.spec (λ c κs. search needs) returns returns-2)

@@ -6,15 +6,6 @@ use borrow.Author.Needs.{needs}
 use Rattle.usb_device_stall.proofs.run_is_stalled.Statement.{statement}
 use Rattle.usb_device_stall.proofs.run_is_stalled.Tie as tie
 
-admit-at-requires : tie.Need-admit-at-requires
-admit-at-requires c κs = search needs
-
-enum-known-t : tie.Need-enum-known-t
-enum-known-t c = search needs
-
-enum-told : tie.Need-enum-told
-enum-told c = search needs
-
 ep-is-stalled-requires : tie.Need-ep-is-stalled-requires
 ep-is-stalled-requires c κs = omega (arith, c .before .before .before .before .admit-at .ensures .1 (c .before .before .enum-told .given .1))
 
@@ -22,21 +13,10 @@ returns : tie.Need-returns
 unfolding isStalledRan
 returns c = search (not-telling, needs)
 
-same-length : tie.Need-same-length
-same-length c = search needs
-
 returns-2 : tie.Need-returns-2
 unfolding isStalledRan
 returns-2 c = search (telling, needs)
 
 pub run-is-stalled-spec : {M : Type 1} → statement M
-run-is-stalled-spec =
-    tie.close
-    (tie.spec
-    admit-at-requires
-    enum-known-t
-    enum-told
-    ep-is-stalled-requires
-    returns
-    same-length
-    returns-2)
+run-is-stalled-spec = tie.close (tie.spec (λ c κs. search needs) (λ c. search needs) (λ c. search needs) ep-is-stalled-requires returns
+    (λ c. search needs) returns-2)

@@ -4,12 +4,9 @@ use borrow.Author.Needs.{needs}
 use Rattle.usb_device_write.proofs.not_writable.Statement.{statement}
 use Rattle.usb_device_write.proofs.not_writable.Tie as tie
 
-untaken-in-requires : tie.Need-untaken-in-requires
-untaken-in-requires c κs = search needs
-
 returns : tie.Need-returns
 unfolding notWritable
 returns c = cc
 
 pub not-writable-spec : {M : Type 1} → statement M
-not-writable-spec = tie.close (tie.spec untaken-in-requires returns)
+not-writable-spec = tie.close (tie.spec (λ c κs. search needs) returns)

@@ -4,20 +4,11 @@ use borrow.Author.Needs.{needs}
 use Rattle.usb_device_write.proofs.own_tests_at.Statement.{statement}
 use Rattle.usb_device_write.proofs.own_tests_at.Tie as tie
 
-tx-pkt-rdy-requires : tie.Need-tx-pkt-rdy-requires
-tx-pkt-rdy-requires c κs = search needs
-
 returns : tie.Need-returns
 returns c = own-blocked _ _ _ _ _ (c .before .tx-pkt-rdy .ensures) (c .if1 .taken)
 
-too-long-requires : tie.Need-too-long-requires
-too-long-requires c κs = search needs
-
 returns-2 : tie.Need-returns-2
 returns-2 c = own-long _ _ _ _ _ (c .before .before .before .tx-pkt-rdy .ensures) (c .before .too-long .ensures) (c .before .before .if1 .left) (c .if2 .taken)
-
-not-writable-requires : tie.Need-not-writable-requires
-not-writable-requires c κs = search needs
 
 returns-3 : tie.Need-returns-3
 returns-3 c = own-untaken _ _ _ _ _ (c .before .before .before .before .before .tx-pkt-rdy .ensures) (c .before .before .before .too-long .ensures) (c .before .before .before .before .if1 .left) (c .before .not-writable .ensures) (c .before .before .if2 .left) (c .if3 .taken)
@@ -26,13 +17,5 @@ returns-4 : tie.Need-returns-4
 returns-4 c = own-clear _ _ _ _ _ (c .before .before .before .before .before .tx-pkt-rdy .ensures) (c .before .before .before .too-long .ensures) (c .before .before .before .before .if1 .left) (c .before .not-writable .ensures) (c .before .before .if2 .left) (c .if3 .left)
 
 pub own-tests-at-spec : {M : Type 1} → statement M
-own-tests-at-spec =
-    tie.close
-    (tie.spec
-    tx-pkt-rdy-requires
-    returns
-    too-long-requires
-    returns-2
-    not-writable-requires
-    returns-3
+own-tests-at-spec = tie.close (tie.spec (λ c κs. search needs) returns (λ c κs. search needs) returns-2 (λ c κs. search needs) returns-3
     returns-4)

@@ -4,14 +4,5 @@ use borrow.Author.Needs.{needs}
 use Rattle.usb_device_write.proofs.send_other.Statement.{statement}
 use Rattle.usb_device_write.proofs.send_other.Tie as tie
 
-modify-txcsrl-requires : tie.Need-modify-txcsrl-requires
-modify-txcsrl-requires c κs = search needs
-
-same-length : tie.Need-same-length
-same-length c = search needs
-
-returns : tie.Need-returns
-returns c = search (other-by, needs)
-
 pub send-other-spec : {M : Type 1} → statement M
-send-other-spec = tie.close (tie.spec modify-txcsrl-requires same-length returns)
+send-other-spec = tie.close (tie.spec (λ c κs. search needs) (λ c. search needs) (λ c. search (other-by, needs)))

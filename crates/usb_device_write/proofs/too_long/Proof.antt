@@ -4,12 +4,9 @@ use borrow.Author.Needs.{needs}
 use Rattle.usb_device_write.proofs.too_long.Statement.{statement}
 use Rattle.usb_device_write.proofs.too_long.Tie as tie
 
-area-requires : tie.Need-area-requires
-area-requires c κs = search needs
-
 returns : tie.Need-returns
 unfolding tooLong
 returns c = cc
 
 pub too-long-spec : {M : Type 1} → statement M
-too-long-spec = tie.close (tie.spec area-requires returns)
+too-long-spec = tie.close (tie.spec (λ c κs. search needs) returns)

@@ -5,15 +5,9 @@ use borrow.Author.Needs.{needs}
 use Rattle.usb_device_write.proofs.tx_size.Statement.{statement}
 use Rattle.usb_device_write.proofs.tx_size.Tie as tie
 
-array-copy-out-e : tie.Need-array-copy-out-e
-array-copy-out-e c = search needs
-
-cast-result : tie.Need-cast-result
-cast-result c = search needs
-
 returns : tie.Need-returns
 unfolding txSizeIn
 returns c = refl
 
 pub tx-size-spec : {M : Type 1} → statement M
-tx-size-spec = tie.close (tie.spec array-copy-out-e cast-result returns)
+tx-size-spec = tie.close (tie.spec (λ c. search needs) (λ c. search needs) returns)

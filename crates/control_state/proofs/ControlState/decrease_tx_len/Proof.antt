@@ -7,21 +7,11 @@ use borrow.Author.Needs.{needs}
 use Rattle.control_state.proofs.ControlState.decrease_tx_len.Statement.{statement}
 use Rattle.control_state.proofs.ControlState.decrease_tx_len.Tie as tie
 
-set-tx-len-requires : tie.Need-set-tx-len-requires
-set-tx-len-requires c κs = search needs
-
 returns : tie.Need-returns
 returns c =
     let a = c .before .before .args in
     let none : a .self .«tx_len» - a .len ≡ 0 = omega arith in
     rw none (c .set-tx-len .ensures)
 
-set-tx-len-requires-2 : tie.Need-set-tx-len-requires-2
-set-tx-len-requires-2 c κs = search needs
-
-returns-2 : tie.Need-returns-2
-returns-2 c = search needs
-
 pub decrease-tx-len-spec : {M : Type 1} → statement M
-decrease-tx-len-spec =
-    tie.close (tie.spec set-tx-len-requires returns set-tx-len-requires-2 returns-2)
+decrease-tx-len-spec = tie.close (tie.spec (λ c κs. search needs) returns (λ c κs. search needs) (λ c. search needs))

@@ -1,4 +1,4 @@
--- Reply 4's row in its own words, apart from the test `taken`: a driver that gives a bulk endpoint a number whose other direction is used would
+-- Reply 4's row in its own words, apart from the test `inUse`: a driver that gives a bulk endpoint a number whose other direction is used would
 -- have to make these false.
 -- Assumes nothing.
 use mathlib.Core.Path.{_≡_}
@@ -16,7 +16,7 @@ Marked e Out = e .«used_rx» ≡ true
 Marked e In = e .«used_tx» ≡ true
 
 -- "bulk with either direction used; or used, with another type or that same direction"
-pub data Taken (e : EndpointData) (k : EndpointType) (d : Direction) : Type 0 where
-  bulk : (c : Direction) → k ≡ Bulk → Marked e c → Taken e k d
-  another : (c : Direction) → Marked e c → (kindOf e ≡ k → ⊥) → Taken e k d
-  same : Marked e d → Taken e k d
+pub data InUse (e : EndpointData) (k : EndpointType) (d : Direction) : Type 0 where
+  bulk : (c : Direction) → k ≡ Bulk → Marked e c → InUse e k d
+  another : (c : Direction) → Marked e c → (kindOf e ≡ k → ⊥) → InUse e k d
+  same : Marked e d → InUse e k d

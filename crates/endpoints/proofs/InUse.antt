@@ -5,6 +5,7 @@ use mathlib.Core.Path.{_≡_, refl, sym, ap, _∙_}
 use mathlib.Core.Bool.{Bool, true, false, not, _&&_, _||_}
 use mathlib.Core.Logic.{_↔_}
 use borrow.Author.Tests.{ltb-true, lt-ltb}
+use Rattle.laws.proofs.Tests.{clash, or-one}
 use Rattle.board.specs.declared.Row.{Row}
 use Rattle.board.specs.declared.Direction.{Direction}
 use Rattle.board.specs.declared.Direction.the-variants.{Out, In}
@@ -12,13 +13,8 @@ use Rattle.endpoints.specs.declared.EndpointType.{EndpointType}
 use Rattle.endpoints.specs.declared.EndpointType.the-variants.{Control, Isochronous, Bulk, Interrupt}
 use Rattle.endpoints.specs.declared.EndpointData.{EndpointData}
 use Rattle.endpoints.specs.Endpoints.{Ask, sameType, kindOf, used, usedIn}
-use Rattle.endpoints.specs.Check.{taken, overSize}
-use Rattle.endpoints.specs.Taken.{Marked, Taken, bulk, another, same}
-use Rattle.endpoints.proofs.CheckAnswers.{clash}
-
-or-true : (a : Bool) → (a || true) ≡ true
-or-true true = refl
-or-true false = refl
+use Rattle.endpoints.specs.Check.{inUse, overSize}
+use Rattle.endpoints.specs.InUse.{Marked, InUse, bulk, another, same}
 
 self : (a : EndpointType) → sameType a a ≡ true
 self Control = refl
@@ -27,27 +23,27 @@ self Bulk = refl
 self Interrupt = refl
 
 is-bulk : (a : EndpointType) → sameType a Bulk ≡ true → a ≡ Bulk
-is-bulk Control h = absurd (clash h)
-is-bulk Isochronous h = absurd (clash h)
+is-bulk Control h = clash (sym h)
+is-bulk Isochronous h = clash (sym h)
 is-bulk Bulk h = refl
-is-bulk Interrupt h = absurd (clash h)
+is-bulk Interrupt h = clash (sym h)
 
 same-type : (a b : EndpointType) → sameType a b ≡ true → a ≡ b
 same-type Control Control h = refl
-same-type Control Isochronous h = absurd (clash h)
-same-type Control Bulk h = absurd (clash h)
-same-type Control Interrupt h = absurd (clash h)
-same-type Isochronous Control h = absurd (clash h)
+same-type Control Isochronous h = clash (sym h)
+same-type Control Bulk h = clash (sym h)
+same-type Control Interrupt h = clash (sym h)
+same-type Isochronous Control h = clash (sym h)
 same-type Isochronous Isochronous h = refl
-same-type Isochronous Bulk h = absurd (clash h)
-same-type Isochronous Interrupt h = absurd (clash h)
-same-type Bulk Control h = absurd (clash h)
-same-type Bulk Isochronous h = absurd (clash h)
+same-type Isochronous Bulk h = clash (sym h)
+same-type Isochronous Interrupt h = clash (sym h)
+same-type Bulk Control h = clash (sym h)
+same-type Bulk Isochronous h = clash (sym h)
 same-type Bulk Bulk h = refl
-same-type Bulk Interrupt h = absurd (clash h)
-same-type Interrupt Control h = absurd (clash h)
-same-type Interrupt Isochronous h = absurd (clash h)
-same-type Interrupt Bulk h = absurd (clash h)
+same-type Bulk Interrupt h = clash (sym h)
+same-type Interrupt Control h = clash (sym h)
+same-type Interrupt Isochronous h = clash (sym h)
+same-type Interrupt Bulk h = clash (sym h)
 same-type Interrupt Interrupt h = refl
 
 mark : (e : EndpointData) (d : Direction) → usedIn e d ≡ true → Marked e d
@@ -67,32 +63,32 @@ used-by e h = go (e .«used_rx») refl
 
 in-use : (e : EndpointData) (c : Direction) → Marked e c → used e ≡ true
 in-use e Out p = rw p
-in-use e In p = rw p (or-true (e .«used_rx»))
+in-use e In p = rw p (or-one (e .«used_rx»))
 
 module _ (e : EndpointData) (k : EndpointType) (d : Direction) where
-  pub taken-is : taken e k d ≡ true → Taken e k d
-  unfolding taken
-  taken-is h = go (sameType k Bulk) (sameType (kindOf e) k) (used e) (usedIn e d) refl refl refl refl h
+  pub in-use-is : inUse e k d ≡ true → InUse e k d
+  unfolding inUse
+  in-use-is h = go (sameType k Bulk) (sameType (kindOf e) k) (used e) (usedIn e d) refl refl refl refl h
     where
       go : (a b u m : Bool) → sameType k Bulk ≡ a → sameType (kindOf e) k ≡ b → used e ≡ u → usedIn e d ≡ m
-          → ((a && u) || (u && (not b || m))) ≡ true → Taken e k d
+          → ((a && u) || (u && (not b || m))) ≡ true → InUse e k d
       go true b true m p q r s h = let x = used-by e r in bulk (x .0) (is-bulk k p) (x .1)
-      go true b false m p q r s h = absurd (clash h)
-      go false b false m p q r s h = absurd (clash h)
+      go true b false m p q r s h = clash (sym h)
+      go false b false m p q r s h = clash (sym h)
       go false false true m p q r s h =
-          let x = used-by e r in another (x .0) (x .1) (λ t. clash (sym q ∙ (ap (λ (z : EndpointType). sameType z k) t ∙ self k)))
+          let x = used-by e r in another (x .0) (x .1) (λ t. clash (sym (ap (λ (z : EndpointType). sameType z k) t ∙ self k) ∙ q))
       go false true true true p q r s h = same (mark e d s)
-      go false true true false p q r s h = absurd (clash h)
+      go false true true false p q r s h = clash (sym h)
 
-  pub is-taken : Taken e k d → taken e k d ≡ true
-  unfolding taken
-  is-taken (bulk c p m) = rw (p, in-use e c m)
-  is-taken (another c m n) = go (sameType (kindOf e) k) refl
+  pub is-in-use : InUse e k d → inUse e k d ≡ true
+  unfolding inUse
+  is-in-use (bulk c p m) = rw (p, in-use e c m)
+  is-in-use (another c m n) = go (sameType (kindOf e) k) refl
     where
       go : (b : Bool) → sameType (kindOf e) k ≡ b → ((sameType k Bulk && used e) || (used e && (not (sameType (kindOf e) k) || usedIn e d))) ≡ true
       go true q = absurd (n (same-type (kindOf e) k q))
-      go false q = rw (in-use e c m, q) (or-true (sameType k Bulk && true))
-  is-taken (same m) = rw (in-use e d m, unmark e d m, or-true (not (sameType (kindOf e) k))) (or-true (sameType k Bulk && true))
+      go false q = rw (in-use e c m, q) (or-one (sameType k Bulk && true))
+  is-in-use (same m) = rw (in-use e d m, unmark e d m, or-one (not (sameType (kindOf e) k))) (or-one (sameType k Bulk && true))
 
 -- reply 5, "size over the table's"
 pub over-size : (r : Row) (q : Ask) → overSize r q ≡ true ↔ r .size < q .size
