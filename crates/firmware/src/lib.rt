@@ -1,0 +1,73 @@
+// What an interrupt leads to, on a board around the driver: an example to begin from (docs/CALLS.md). Whatever arrives, and whatever is lent, a turn
+// ends and nothing in it fails.
+mod chip;
+
+use record::Record;
+use round_rules::PollAnswer;
+use round_rules::PollResult;
+use transfer_rules::ReadAnswer;
+
+// A packet has arrived. After another interrupt the host's `collection`, `bus_reset`, .. stands in the place of `arrival`.
+pub fn turn(
+    k: Record,
+    ep: u8,
+    bytes: &[u8],
+    buf: &mut [u8],
+    fifo: &mut [u8],
+    list: &mut [u16],
+) -> Record {
+    // 17: the packet before it is unread. Leave this one in the chip, and tell it again.
+    let a = host::arrival(k, ep, bytes, fifo);
+    let i = usb_device_interrupt::on_interrupt(a.record);
+    let p = usb_device_poll::poll(i.record, list);
+    chip::carry_out(list, p.stores, fifo);
+    let answer = p.answer;
+    match answer {
+        PollAnswer::Done(told) => serve(p.record, told, buf, fifo, list),
+        // 15: too little is lent; 16: a record that can't be
+        PollAnswer::Refused(_) => p.record,
+    }
+}
+
+fn serve(k: Record, told: PollResult, buf: &mut [u8], fifo: &[u8], list: &mut [u16]) -> Record {
+    match told {
+        PollResult::Data(m) => read_named(k, m.ep_out | m.ep_setup, buf, fifo, list),
+        PollResult::Reset => {
+            let c = usb_device_reset::reset(k, list);
+            chip::carry_out(list, c.stores, fifo);
+            c.record
+        }
+        // None, Resume, Suspend
+        _ => k,
+    }
+}
+
+fn read_named(k: Record, named: u16, buf: &mut [u8], fifo: &[u8], list: &mut [u16]) -> Record {
+    let mut o = k;
+    for ep in 0..6u8 {
+        o = read_if((named >> ep) % 2 == 1, o, ep, buf, fifo, list);
+    }
+    o
+}
+
+fn read_if(
+    named: bool,
+    k: Record,
+    ep: u8,
+    buf: &mut [u8],
+    fifo: &[u8],
+    list: &mut [u16],
+) -> Record {
+    if !named {
+        return k;
+    }
+    let r = usb_device_read::read(k, ep, buf, fifo, list);
+    chip::carry_out(list, r.stores, fifo);
+    let answer = r.answer;
+    match answer {
+        ReadAnswer::Done(n) => chip::received(ep, buf, n),
+        // 6: named, and read already
+        ReadAnswer::Refused(_) => {}
+    }
+    r.record
+}
