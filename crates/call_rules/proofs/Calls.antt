@@ -4,7 +4,6 @@ use Prim.Native.Nat.{ℕ, _≤_, _<_}
 use mathlib.Core.Path.{_≡_, refl, sym, ap, _∙_}
 use mathlib.Core.Bool.{Bool, false}
 use mathlib.Core.List.{List}
-use native.Mathlib.Omega.{arith}
 use borrow.Author.Tests.{ltb-false, le-leb, lt-leb}
 use lib.Dec.{ltb, leb}
 use Rattle.register_file.specs.Registers.{File}
@@ -25,9 +24,6 @@ use Rattle.call_rules.specs.Calls.{stored, unless, short, begun, address
 -- where the first tests refuse nothing, the list is long enough
 pub room : (n : ℕ) (p b : Bool) {t : Admission} → t ≡ admissionBy (ltb n listNeed) p b → t ≡ Clear → listNeed ≤ n
 room n p b is e = ltb-false n listNeed (none-refused (ltb n listNeed) p b (sym is ∙ e) .0)
-
-pub never : {x : Refusal} {n : ℕ} → Refused x ≡ Clear → listNeed ≤ n
-never e = let z : _≡_ {A = ℕ} 0 1 = cc in absurd (omega arith)
 
 -- what runs below a call, by its parts
 module _ (c : ControlState) (w : File) (l : List ℕ) where

@@ -20,7 +20,6 @@ use Rattle.endpoints.specs.Endpoints.{blank, kindOf, sizeIn, usedIn, used}
 use Rattle.store_rules.specs.Stores.{Log, writePower}
 use Rattle.store_rules.specs.Promise.{power}
 use Rattle.store_rules.proofs.Promises.{sides, rest}
-use Rattle.common_rules.specs.Kept.{NoPacket}
 use Rattle.common_rules.specs.Enable.{isochronous, epTxEnable, epRxEnable}
 use Rattle.common_rules.specs.Enabling.{Raised, Ready, Enables, EnablesZero}
 use Rattle.common_rules.proofs.Enabling.{tx-enables, rx-enables, tx-enables-zero, rx-enables-zero}
@@ -35,6 +34,7 @@ use Rattle.call_rules.specs.Calls.{stored, unless, short, begun, idled}
 use Rattle.call_rules.specs.Reset.{txEnabled, rxEnabled, usedEnabled, enabledBelow, resetStores, resetCall}
 use Rattle.call_rules.specs.Resetting.{Resets}
 use Rattle.call_rules.proofs.Replies.{not-refused}
+use Rattle.csr.specs.Kept.{NoPacket}
 
 -- a bit that is up stays up where another is raised
 word-up : (e j : ℕ) {v w : ℕ} → j < 16 → Raised e v w → bit v j ≡ true → bit w j ≡ true

@@ -3,13 +3,10 @@ use Prim.Native.Nat.{ℕ, _<_}
 use mathlib.Core.Path.{_≡_, refl, subst, sym}
 use mathlib.Core.Bool.{Bool, true, false, _&&_, cond}
 use mathlib.Core.List.{List}
-use native.Mathlib.Omega.{arith}
-use borrow.Author.Tests.{eq-eqb, leb-false, eqb-true}
-use lib.Dec.{eqb, leb}
-use lib.ListN.{length}
+use borrow.Author.Tests.{eq-eqb, eqb-true}
+use lib.Dec.{eqb}
 use Rattle.board.specs.declared.Direction.{Direction}
 use Rattle.board.specs.declared.Direction.the-variants.{Out, In}
-use Rattle.board.specs.Boards.{rows, at-most-six}
 use Rattle.register_file.specs.Registers.{Whole}
 use Rattle.control_state.specs.declared.ControlState.{ControlState}
 use Rattle.control_state.specs.declared.ControlStateEnum.the-variants.{Idle}
@@ -19,13 +16,14 @@ use Rattle.common_rules.proofs.Stalling.{tx-stalls, rx-stalls, tx-stalls-zero, 
 use Rattle.record.specs.declared.Record.{Record}
 use Rattle.record.specs.declared.Admission.{Admission}
 use Rattle.record.specs.declared.Admission.the-variants.{Clear, Refused}
-use Rattle.record.specs.Record.{recordSound, admissionBy, endpointsIn, endpointsOf}
+use Rattle.record.specs.Record.{recordSound, admissionBy, endpointsOf}
 use Rattle.record.proofs.Rows.{none-refused}
 use Rattle.call_rules.specs.declared.Reply.the-variants as reply
 use Rattle.call_rules.specs.Calls.{stored, unless, short, begun, idled, beyond}
 use Rattle.call_rules.specs.Stall.{epStall, afterStall, setStalledCall}
 use Rattle.call_rules.specs.Stalling.{SetStalled}
 use Rattle.call_rules.proofs.Replies.{not-refused}
+use Rattle.record.proofs.Areas.{below-six}
 
 -- by direction
 module _ (e : ℕ) (b : Bool) (g : Log) (six : Whole (g .regs)) where
@@ -59,18 +57,15 @@ module _ (e : ℕ) (c : ControlState) where
 
 pub set-stalled : (k : Record) (e : ℕ) (d : Direction) (b : Bool) (l : List ℕ) → Whole (k .regs .words)
     → setStalledCall k e d b l .call .answer ≡ reply.Done → SetStalled k e d b l (setStalledCall k e d b l)
-unfolding setStalledCall endpointsOf endpointsIn
+unfolding setStalledCall endpointsOf
 set-stalled k e d b l six a = go (admissionBy (short l) (recordSound k) (beyond k e)) refl a
   where
-    low : leb (length (rows (k .regs .board))) e ≡ false → e < 6
-    low p = omega (arith, leb-false (length (rows (k .regs .board))) e p, at-most-six (k .regs .board))
-
     go : (t : Admission) → admissionBy (short l) (recordSound k) (beyond k e) ≡ t
         → unless t k l (stored k (afterStall e b (k .«control_state»)) (epStall d e b (begun k l))) .call .answer ≡ reply.Done
         → SetStalled k e d b l (unless t k l (stored k (afterStall e b (k .«control_state»)) (epStall d e b (begun k l))))
     go (Refused x) p q = not-refused q
     go Clear p q = record {
-      other = other e b (begun k l) six d (low (none-refused (short l) (recordSound k) _ p .2));
+      other = other e b (begun k l) six d (below-six (k .regs .board) e (none-refused (short l) (recordSound k) _ p .2));
       zero = zero e b (begun k l) six d;
       idle = idle e (k .«control_state») b;
       control = control e (k .«control_state») b;

@@ -1,7 +1,7 @@
 -- What an interrupt that is taken does to the flags: it adds what the interrupt registers held, at every endpoint of the board, and clears them.
 -- Assumes nothing.
 use mathlib.Core.Path.{_≡_, refl, sym, ap, _∙_}
-use mathlib.Core.Bool.{Bool, true, false, cond, _||_}
+use mathlib.Core.Bool.{Bool, true, false, cond, _||_, or-false, or-true}
 use mathlib.Core.List.{List, [], _∷_, foldl}
 use Prim.Native.Nat.{ℕ, zero, suc, _+_, _-_, _≤_, _<_}
 use native.Mathlib.Omega.{arith}
@@ -9,7 +9,6 @@ use native.Mathlib.Decide.{ℕ-discrete}
 use borrow.Author.Tests.{eq-eqb, ne-eqb}
 use Rattle.laws.specs.Words.{bit, raised}
 use Rattle.laws.proofs.Words.{bit-raised}
-use Rattle.laws.proofs.Tests.{or-zero, or-one}
 use Rattle.board.specs.declared.Direction.the-variants.{Out, In}
 use Rattle.register_file.specs.Registers.{File, Whole, intrOf}
 use Rattle.event_rules.specs.Events.{intrusbCleared, intrCleared}
@@ -38,8 +37,8 @@ module _ (read w e j : ℕ) (he : e < 6) (hj : j < 6) where
       go : (b : Bool) → bit read e ≡ b → bit (cond b (raised w e) w) j ≡ (bit w j || bit read j)
       go true q =
           bit-raised w e j he hj ∙ ap (λ (x : Bool). x || bit w j) (eq-eqb j e p)
-          ∙ sym (ap (λ (x : Bool). bit w j || x) (ap (bit read) p ∙ q) ∙ or-one (bit w j))
-      go false q = sym (ap (λ (x : Bool). bit w j || x) (ap (bit read) p ∙ q) ∙ or-zero (bit w j))
+          ∙ sym (ap (λ (x : Bool). bit w j || x) (ap (bit read) p ∙ q) ∙ or-true (bit w j))
+      go false q = sym (ap (λ (x : Bool). bit w j || x) (ap (bit read) p ∙ q) ∙ or-false (bit w j))
 
 -- and then those of m endpoints from i on
 abbrev added : ℕ → ℕ → ℕ → ℕ → ℕ

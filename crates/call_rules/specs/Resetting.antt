@@ -11,11 +11,11 @@ use Rattle.register_file.specs.Registers.{sideAt, faddr, enabledOf}
 use Rattle.control_state.specs.declared.ControlStateEnum.the-variants.{Idle}
 use Rattle.endpoints.specs.declared.EndpointData.{EndpointData}
 use Rattle.endpoints.specs.Endpoints.{blank, kindOf, sizeIn, usedIn, used}
-use Rattle.common_rules.specs.Kept.{NoPacket}
 use Rattle.common_rules.specs.Enable.{isochronous}
 use Rattle.common_rules.specs.Enabling.{Ready}
 use Rattle.record.specs.declared.Record.{Record}
 use Rattle.record.specs.Record.{endpointsOf}
+use Rattle.csr.specs.Kept.{NoPacket}
 
 abbrev pub dataOf : Record → ℕ → EndpointData
 dataOf k e = getD (k .endpoints) e blank

@@ -1,7 +1,7 @@
 -- What stalling, the reset call and a read leave of the packets that wait at endpoints 1 to 5. Assumes nothing.
 use Prim.Native.Nat.{ℕ, zero, suc, _≤_, _<_}
 use mathlib.Core.Path.{_≡_, refl, sym, ap, _∙_}
-use mathlib.Core.Bool.{Bool, true, false, not, cond, _&&_, _||_}
+use mathlib.Core.Bool.{Bool, true, false, not, cond, _&&_, _||_, and-false, and-true, or-false}
 use mathlib.Core.List.{List}
 use native.Mathlib.Omega.{arith}
 use native.Mathlib.Decide.{ℕ-discrete}
@@ -9,7 +9,6 @@ use borrow.Author.Tests.{eqb-true, eq-eqb, ne-eqb}
 use lib.Dec.{eqb}
 use lib.ListN.{getD}
 use Rattle.laws.specs.Words.{raised}
-use Rattle.laws.proofs.Tests.{and-zero, and-one, or-zero}
 use Rattle.board.specs.declared.Direction.{Direction}
 use Rattle.board.specs.declared.Direction.the-variants.{Out, In}
 use Rattle.csr.specs.declared.Side.{Side}
@@ -18,7 +17,7 @@ use Rattle.csr.specs.declared.TxcsrlSet.the-variants as tx-set
 use Rattle.csr.specs.declared.RxcsrlSet.the-variants as rx-set
 use Rattle.csr.specs.Control.{csr0lBits, txcsrlBits, rxcsrlBits}
 use Rattle.csr.proofs.AsWritten as written
-use Rattle.csr.proofs.Modified.{rx-read, rx-flushed}
+use Rattle.csr.proofs.Modified.{rx-read, rx-flush}
 use Rattle.register_file.specs.Registers.{File, enabledOf, chosen}
 use Rattle.store_rules.specs.Stores.{Log, writeIndex, modifyCsr0l, modifyRxcsrl, modifyIntre}
 use Rattle.store_rules.specs.Promise.{index, csr0l, csr0h, txcsrl, iso, maxp, intre}
@@ -75,7 +74,7 @@ module _ {r : File} where
   flush-leaves Out {i} gone h l =
       rw (modify-rxcsrl rx-set.FlushFifo h)
       (told-by (λ e n. twice (eqb e i) (gone e))
-      (drops _ h (ap (λ (s : Side). s .ready) (rx-flushed (chosen (h .regs) Out)) ∙ written.drops (chosen (h .regs) Out) .0) l))
+      (drops _ h (ap (λ (s : Side). s .ready) (rx-flush (chosen (h .regs) Out)) ∙ written.drops (chosen (h .regs) Out) .0) l))
   flush-leaves In gone h l = rw (modify-txcsrl tx-set.FlushFifo h) (apart (txModify tx-set.FlushFifo h) h tt (l .low) l)
 
   module _ {gone : ℕ → Bool} where
@@ -94,7 +93,7 @@ module _ {r : File} where
         go : (b : Bool) → eqb i 0 ≡ b → At r i (and d i gone) (cond b x y)
         go true p =
             let z = eqb-true i 0 p in
-            told-by (λ e n. sym (rw (ne-eqb e i (λ q. n (q ∙ z))) (ap (λ (b : Bool). b || gone e) (and-zero (out d))))) (at-zero z)
+            told-by (λ e n. sym (rw (ne-eqb e i (λ q. n (q ∙ z))) (ap (λ (b : Bool). b || gone e) (and-false (out d))))) (at-zero z)
         go false p = other
 
     enabled-leaves : (d : Direction) (i : ℕ) (t : Bool) (size : ℕ) (h : Log) → i < 6 → Left r gone h → At r i (and d i gone) (enabled d i t size h)
@@ -141,7 +140,7 @@ none-above : (es : List EndpointData) (n e : ℕ) → n ≤ e → goneBelow es n
 none-above es zero e h = refl
 none-above es (suc n) e h =
     rw (ne-eqb e n (λ p. omega arith))
-    (ap (λ (b : Bool). b || goneBelow es n e) (and-zero (getD es n blank .«used_rx»)) ∙ none-above es n e (omega arith))
+    (ap (λ (b : Bool). b || goneBelow es n e) (and-false (getD es n blank .«used_rx»)) ∙ none-above es n e (omega arith))
 
 pub below : (es : List EndpointData) (n e : ℕ) → e < n → goneBelow es n e ≡ getD es e blank .«used_rx»
 below es zero e h = absurd (omega arith)
@@ -150,5 +149,5 @@ below es (suc n) e h = go (ℕ-discrete e n) (below es n e)
     go : Dec (e ≡ n) → (e < n → goneBelow es n e ≡ getD es e blank .«used_rx») → goneBelow es (suc n) e ≡ getD es e blank .«used_rx»
     go (yes p) later =
         rw (eq-eqb e n p, none-above es n e (omega arith))
-        (or-zero (getD es n blank .«used_rx» && true) ∙ and-one (getD es n blank .«used_rx») ∙ ap (λ (j : ℕ). getD es j blank .«used_rx») (sym p))
-    go (no m) later = rw (ne-eqb e n m) (ap (λ (b : Bool). b || goneBelow es n e) (and-zero (getD es n blank .«used_rx»)) ∙ later (omega arith))
+        (or-false (getD es n blank .«used_rx» && true) ∙ and-true (getD es n blank .«used_rx») ∙ ap (λ (j : ℕ). getD es j blank .«used_rx») (sym p))
+    go (no m) later = rw (ne-eqb e n m) (ap (λ (b : Bool). b || goneBelow es n e) (and-false (getD es n blank .«used_rx»)) ∙ later (omega arith))

@@ -1,7 +1,7 @@
 -- How every operation ends: done, refused by one of its numbers with everything as it was, or blocked. Assumes nothing.
 use Prim.Native.Nat.{ℕ, zero, suc, _≤_}
 use mathlib.Core.Path.{_≡_, refl, sym, ap, subst, _∙_}
-use mathlib.Core.Bool.{Bool, true, false, _||_}
+use mathlib.Core.Bool.{Bool, true, false, or-true}
 use mathlib.Core.Logic.{inl, inr}
 use mathlib.Core.List.{List, [], _∷_}
 use native.Mathlib.Omega.{arith}
@@ -82,15 +82,11 @@ abbrev numbers : List Row → List ℕ
 numbers [] = 0 ∷ []
 numbers (r ∷ rs) = r .number ∷ numbers rs
 
-or-right : (a : Bool) → (a || true) ≡ true
-or-right true = refl
-or-right false = refl
-
 given-among : (n : ℕ) (rs : List Row) → Given n rs → among n (numbers rs) ≡ true
 unfolding Given
 given-among n [] g = rw (eq-eqb n 0 g)
 given-among n (r ∷ rs) (inl g) = rw (eq-eqb n (r .number) (g .1))
-given-among n (r ∷ rs) (inr g) = rw (given-among n rs (g .1)) (or-right (eqb n (r .number)))
+given-among n (r ∷ rs) (inr g) = rw (given-among n rs (g .1)) (or-true (eqb n (r .number)))
 
 -- a refused call has no values
 no-told : (a : StalledAnswer) → (impl-stall.stalledNumber a ≡ 0 → ⊥) → impl-stall.stalledValues a ≡ []

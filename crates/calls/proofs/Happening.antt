@@ -3,7 +3,7 @@
 -- Assumes nothing.
 use Prim.Native.Nat.{ℕ, _≤_, _<_}
 use mathlib.Core.Path.{_≡_, refl, _∙_}
-use mathlib.Core.Bool.{Bool, true, false, _||_, cond}
+use mathlib.Core.Bool.{true, false, cond}
 use mathlib.Core.List.{List}
 use native.Mathlib.Nat.{le-trans}
 use native.Mathlib.Decide.{ℕ-discrete}
@@ -20,8 +20,8 @@ use Rattle.register_file.specs.Registers.{File, sideAt}
 use Rattle.register_file.specs.Sound.{Clean}
 use Rattle.csr.specs.Control.{dropped}
 use Rattle.csr.specs.Sound.{SideOk}
-use Rattle.event_rules.specs.Events.{received, lapsed, arrived, intrusbCleared, intrCleared}
-use Rattle.event_rules.specs.Promise.{Event, arrival, collection, reset, suspend, resume, setupend, miss, happens, leaves, at, Kept}
+use Rattle.event_rules.specs.Events.{received, lapsed, arrived, intrusbCleared, intrCleared, busReset, busSuspend, busResume}
+use Rattle.event_rules.specs.Promise.{Event, arrival, collection, onBus, setupend, miss, happens, leaves, at, Kept}
 use Rattle.event_rules.proofs.Promises.{sides, rest, usb-read, usb-rest, word-read, word-rest}
 use Rattle.event_rules.proofs.Others.{clean, usb-clean, word-clean}
 use Rattle.record.specs.declared.Record.{Record}
@@ -33,18 +33,17 @@ use Rattle.host_rules.specs.Host as host
 use Rattle.host_rules.proofs.Host as laws
 use Rattle.call_rules.specs.Interrupt.{cleared, snapshotOf, interrupted}
 use Rattle.call_rules.proofs.Flags.{taken-low}
-use Rattle.laws.proofs.Tests.{clash}
+use Rattle.laws.proofs.Tests.{clash, neither}
 use Rattle.csr.proofs.Tame.{stays-ok, alike, either, one-way, dropped-tame}
 use Rattle.calls.proofs.Steps.{Standing, Holds}
 use Rattle.calls.proofs.Accounts.{Low, there}
+use Rattle.event_rules.specs.declared.BusEvent.the-variants.{Suspend, Resume, Reset}
 
 -- reply 9 was not given: a packet that arrives fits its area
 abbrev pub Fits : Board → Event → Type 0
 Fits b (arrival e n) = n ≤ areaAt (rows b) e Out .size
 Fits b (collection e) = Unit
-Fits b reset = Unit
-Fits b suspend = Unit
-Fits b resume = Unit
+Fits b (onBus o) = Unit
 Fits b setupend = Unit
 Fits b (miss e d) = Unit
 
@@ -66,9 +65,7 @@ module _ (b : Board) where
       go (no m) = rw (ne-eqb e f m) ok
   leaves-ok (arrival f n) e In s h ok = stays-ok _ (either (eqb f 0) (either (eqb e 0) (alike refl refl))) ok
   leaves-ok (collection f) e d s h ok = stays-ok _ (either (eqb e f) (one-way In d (dropped true) (dropped-tame true s))) ok
-  leaves-ok reset e d s h ok = ok
-  leaves-ok suspend e d s h ok = ok
-  leaves-ok resume e d s h ok = ok
+  leaves-ok (onBus o) e d s h ok = ok
   leaves-ok setupend e d s h ok = ok
   leaves-ok (miss f c) e d s h ok = stays-ok _ (either (eqb e f) (one-way c d lapsed (alike refl refl))) ok
 
@@ -96,31 +93,27 @@ module _ (k : Record) where
   unless-refused o (Refused x) f = refused refl
   unless-refused o Clear f = let p = f refl in happened (p .0) (p .1) refl refl refl
 
-  pub bus-reset : Happens reset k (host.busResetCall k .«record»)
-  unfolding host.busResetCall
-  bus-reset = unless-refused reset (admissionBy false (recordSound k) false) (λ c. (lit< tt, tt))
+  pub bus-reset : Happens (onBus Reset) k (host.busResetCall k .«record»)
+  unfolding host.busResetCall busReset
+  bus-reset = unless-refused (onBus Reset) (admissionBy false (recordSound k) false) (λ c. (lit< tt, tt))
 
-  pub bus-suspend : Happens suspend k (host.suspendCall k .«record»)
-  unfolding host.suspendCall
-  bus-suspend = unless-refused suspend (admissionBy false (recordSound k) false) (λ c. (lit< tt, tt))
+  pub bus-suspend : Happens (onBus Suspend) k (host.suspendCall k .«record»)
+  unfolding host.suspendCall busSuspend
+  bus-suspend = unless-refused (onBus Suspend) (admissionBy false (recordSound k) false) (λ c. (lit< tt, tt))
 
-  pub bus-resume : Happens resume k (host.resumeCall k .«record»)
-  unfolding host.resumeCall
-  bus-resume = unless-refused resume (admissionBy false (recordSound k) false) (λ c. (lit< tt, tt))
+  pub bus-resume : Happens (onBus Resume) k (host.resumeCall k .«record»)
+  unfolding host.resumeCall busResume
+  bus-resume = unless-refused (onBus Resume) (admissionBy false (recordSound k) false) (λ c. (lit< tt, tt))
 
   pub setup-end : Happens setupend k (host.setupEndCall k .«record»)
   unfolding host.setupEndCall
   setup-end = unless-refused setupend (admissionBy false (recordSound k) false) (λ c. (lit< tt, tt))
 
-  right : (x y : Bool) → (x || y) ≡ false → y ≡ false
-  right true y p = clash p
-  right false y p = p
-
   missed : (e : ℕ) (d : Direction) → Happens (miss e d) k (host.missCall k e d .«record»)
   unfolding host.missCall recordSound endpointsOf
   missed e d =
       unless-refused (miss e d) (host.missRefusal k e)
-      (λ c. (le-trans (there k e (right (eqb e 0) (leb (endpointsOf k) e) (none-refused false (recordSound k) _ c .2))) (at-most-six b), tt))
+      (λ c. (le-trans (there k e (neither (eqb e 0) (leb (endpointsOf k) e) (none-refused false (recordSound k) _ c .2) .1)) (at-most-six b), tt))
 
   pub underrun : (e : ℕ) → Happens (miss e In) k (host.underrunCall k e .«record»)
   unfolding host.underrunCall
@@ -134,14 +127,8 @@ module _ (k : Record) where
   arrives : (e n m : ℕ) → host.arrivalRefusal k e n m ≡ Clear → (e < 6) × (n ≤ areaAt (rows b) e Out .size)
   unfolding host.arrivalRefusal host.arrivalRefusalIn areaIn areaOf
   arrives e n m p =
-      let q = own (host.entryAt k e m) (ltb (areaOf k e Out .size) n) (sideAt (k .regs .words) e Out .ready) p in
+      let q = laws.arrival-passed (host.entryAt k e m) (ltb (areaOf k e Out .size) n) (sideAt (k .regs .words) e Out .ready) p in
       (laws.admitted k e m (q .0) .below, ltb-false _ _ (q .1))
-    where
-      own : (t : Admission) (long waits : Bool) → host.arrivalBy t long waits ≡ Clear → (t ≡ Clear) × (long ≡ false)
-      own (Refused x) long waits e = laws.never e
-      own Clear true waits e = laws.never e
-      own Clear false true e = laws.never e
-      own Clear false false e = (refl, refl)
 
   unless-arrived : (e n : ℕ) (f x : List ℕ) (t : Admission) → (t ≡ Clear → (e < 6) × (n ≤ areaAt (rows b) e Out .size))
       → Happens (arrival e n) k (host.unlessArrived t k f (record { event = host.done k (arrived (k .regs .words) e n); fifo = x }) .event .«record»)
@@ -154,11 +141,7 @@ module _ (k : Record) where
 
   collects : (e m : ℕ) → host.collectionRefusal k e m ≡ Clear → e < 6
   unfolding host.collectionRefusal host.collectionRefusalIn
-  collects e m p = laws.admitted k e m (own (host.entryAt k e m) (sideAt (k .regs .words) e In .ready) p) .below
-    where
-      own : (t : Admission) (waits : Bool) → host.collectionBy t waits ≡ Clear → t ≡ Clear
-      own (Refused x) waits e = laws.never e
-      own Clear waits e = refl
+  collects e m p = laws.admitted k e m (laws.collection-passed (host.entryAt k e m) (sideAt (k .regs .words) e In .ready) p) .below
 
   pub collection-comes : (e : ℕ) (f : List ℕ) → Happens (collection e) k (host.collectionCall k e f .«record»)
   unfolding host.collectionCall host.collectedFrom

@@ -105,9 +105,7 @@ path-lasting (then {h} r (sent n o) m) k e =
 abbrev pub BringsNone : Event → Type 0
 BringsNone (events.arrival f n) = ⊥
 BringsNone (events.collection f) = Unit
-BringsNone events.reset = Unit
-BringsNone events.suspend = Unit
-BringsNone events.resume = Unit
+BringsNone (events.onBus o) = Unit
 BringsNone events.setupend = Unit
 BringsNone (events.miss f c) = Unit
 
@@ -119,9 +117,7 @@ made false s t p = refl
 leaves-length : (o : Event) (e : ℕ) (s : Side) → BringsNone o → events.leaves o e Out s .len ≡ s .len
 leaves-length (events.arrival f n) e s c = absurd c
 leaves-length (events.collection f) e s c = made (eqb e f) s s refl
-leaves-length events.reset e s c = refl
-leaves-length events.suspend e s c = refl
-leaves-length events.resume e s c = refl
+leaves-length (events.onBus o) e s c = refl
 leaves-length events.setupend e s c = refl
 leaves-length (events.miss f Out) e s c = made (eqb e f) s _ refl
 leaves-length (events.miss f In) e s c = made (eqb e f) s s refl

@@ -18,6 +18,7 @@ use Rattle.store_rules.specs.Stores.{Log, log}
 use Rattle.store_rules.specs.Promise.{Store, faddr, power, index, csr0l, csr0h, txcsrl, rxcsrl, iso, maxp, intrusbe, intre, packet, does, isListed, register, value}
 use Rattle.store_rules.proofs.Promises.{rest, packet-none}
 use Rattle.store_rules.proofs.Others as noted
+use Rattle.event_rules.specs.declared.BusEvent.the-variants as bus
 use Rattle.event_rules.specs.Promise as events
 use Rattle.event_rules.specs.Promise.{Event, happens}
 use Rattle.record.specs.declared.Record.{Record}
@@ -37,6 +38,7 @@ use Rattle.calls.specs.Listed.{Leads, start, more, unlisted, Unlisted, L
 use Rattle.calls.proofs.Steps.{Step, one, sent, Reached, none, then, within, keeps}
 use Rattle.calls.proofs.Accounts.{Account, Passes}
 use Rattle.calls.proofs.Kept.{Accounted, gentle, stalling, event, interrupt, account}
+use Rattle.event_rules.specs.Events as wire
 
 module _ (r : File) (l : List ℕ) where
   abbrev To : Log → Type 0
@@ -144,13 +146,13 @@ module _ (k : Record) where
   plain = admissionBy false (recordSound k) false
 
   others : (o : Op) → (Stores o → ⊥) → Unlisted k o
-  unfolding interruptCall host.arrivalCall host.collectionCall host.busResetCall host.suspendCall host.resumeCall host.setupEndCall host.underrunCall host.overrunCall host.missCall
+  unfolding interruptCall host.arrivalCall host.collectionCall host.busResetCall host.suspendCall host.resumeCall host.setupEndCall host.underrunCall host.overrunCall host.missCall wire.busReset wire.busSuspend wire.busResume
   others onInterrupt n = record { regs = interrupt-left (recordSound k); list = refl; count = refl }
   others (arrival e b f) n = record { regs = arrival-left (events.arrival e (length b)) f _ (host.arrivalRefusal k e (length b) (length f)); list = refl; count = refl }
   others (collection e f) n = record { regs = collection-left e (host.collectionRefusal k e (length f)); list = refl; count = refl }
-  others busReset n = record { regs = happens-left events.reset plain; list = refl; count = refl }
-  others suspend n = record { regs = happens-left events.suspend plain; list = refl; count = refl }
-  others resume n = record { regs = happens-left events.resume plain; list = refl; count = refl }
+  others busReset n = record { regs = happens-left (events.onBus bus.Reset) plain; list = refl; count = refl }
+  others suspend n = record { regs = happens-left (events.onBus bus.Suspend) plain; list = refl; count = refl }
+  others resume n = record { regs = happens-left (events.onBus bus.Resume) plain; list = refl; count = refl }
   others setupEnd n = record { regs = happens-left events.setupend plain; list = refl; count = refl }
   others (underrun e) n = record { regs = happens-left (events.miss e In) (host.missRefusal k e); list = refl; count = refl }
   others (overrun e) n = record { regs = happens-left (events.miss e Out) (host.missRefusal k e); list = refl; count = refl }

@@ -2,12 +2,11 @@
 use Prim.Native.Nat.{ℕ, _<_}
 use mathlib.Core.Path.{_≡_, refl, sym, ap, _∙_}
 use mathlib.Core.Logic.{_⊎_, inl, inr}
-use mathlib.Core.Bool.{Bool, true, false, not, cond, _&&_, _||_}
+use mathlib.Core.Bool.{Bool, true, false, not, cond, _&&_, _||_, and-false}
 use native.Mathlib.Nat.{le-refl}
 use native.Mathlib.Decide.{ℕ-discrete}
 use borrow.Author.Tests.{eq-eqb, ne-eqb}
 use lib.Dec.{eqb}
-use Rattle.laws.proofs.Tests.{and-zero}
 use Rattle.board.specs.declared.Direction.{Direction}
 use Rattle.board.specs.declared.Direction.the-variants.{Out, In}
 use Rattle.csr.specs.declared.Side.{Side}
@@ -142,7 +141,7 @@ module _ {r : File} {i : ℕ} {gone : ℕ → Bool} where
 
       side : (e : ℕ) → (e ≡ 0 → ⊥) → Dec (e ≡ i)
           → leaves (rxcsrl w) (file.index (h .regs)) e Out (sideAt (h .regs) e Out) .ready ≡ (sideAt r e Out .ready && not (eqb e i || gone e))
-      side e n (yes p) = here e n (p ∙ sym (l .at)) ∙ sym (rw (eq-eqb e i p) (and-zero (sideAt r e Out .ready)))
+      side e n (yes p) = here e n (p ∙ sym (l .at)) ∙ sym (rw (eq-eqb e i p) (and-false (sideAt r e Out .ready)))
       side e n (no m) =
           skipped (sideAt (h .regs) e Out) _ (eqb (file.index (h .regs)) 0) (rw (ne-eqb e (file.index (h .regs)) (λ p. m (p ∙ l .at))))
           ∙ rw (ne-eqb e i m) (l .ready e n)

@@ -12,7 +12,7 @@ use lib.Dec.{eqb, ltb}
 use lib.ListN.{length}
 use lib.Pow.{pow-pos}
 use Rattle.laws.specs.Words.{bit, raised, clear, bitsBelow, setBits}
-use Rattle.laws.proofs.Words.{raised-lt}
+use Rattle.laws.proofs.Words.{raised-lt, six-bits}
 use Rattle.board.specs.declared.Board.{Board}
 use Rattle.board.specs.Boards.{rows, at-least-one, at-most-six}
 use Rattle.csr.specs.declared.Csr0lSet.the-variants.{ServicedSetupEnd}
@@ -72,20 +72,6 @@ bits-below n w (suc m) l h a = bits-below n w m (cond (bit w m) (m ∷ l) l) h (
 set-below : (n w : ℕ) → w < 2 ^ n → AllBelow n (setBits w)
 unfolding setBits
 set-below n w h = bits-below n w 6 [] h tt
-
--- and there are no more than six
-bits-length : (w m : ℕ) (l : List ℕ) → length (bitsBelow w m l) ≤ m + length l
-unfolding bitsBelow
-bits-length w zero l = omega arith
-bits-length w (suc m) l = le-trans (bits-length w m (cond (bit w m) (m ∷ l) l)) (go (bit w m))
-  where
-    go : (b : Bool) → m + length (cond b (m ∷ l) l) ≤ suc m + length l
-    go true = omega arith
-    go false = omega arith
-
-six-bits : (w : ℕ) → length (setBits w) ≤ 6
-unfolding setBits
-six-bits w = bits-length w 6 []
 
 module _ (b : Board) (g : Log) where
   abbrev Path : ℕ → Log → Type 0

@@ -1,14 +1,13 @@
 -- What each operation leaves of the packets that wait to be read at endpoints 1 to 5. Assumes nothing.
 use Prim.Native.Nat.{ℕ, _<_}
 use mathlib.Core.Path.{_≡_, refl, sym, ap, subst, _∙_}
-use mathlib.Core.Bool.{Bool, true, false, not, cond, _&&_}
+use mathlib.Core.Bool.{Bool, true, false, not, cond, _&&_, and-false, and-true, or-false}
 use mathlib.Core.List.{List}
 use mathlib.Core.Logic.{_⊎_, inl, inr}
 use native.Mathlib.Nat.{le-trans}
 use borrow.Author.Tests.{eqb-true, ne-eqb}
 use lib.Dec.{eqb, lit≤}
 use lib.ListN.{length, getD}
-use Rattle.laws.proofs.Tests.{and-zero, and-one, or-zero}
 use Rattle.board.specs.Boards.{rows, at-most-six}
 use Rattle.board.specs.declared.Direction.the-variants.{Out, In}
 use Rattle.csr.specs.declared.Side.{Side}
@@ -49,7 +48,7 @@ none e = false
 
 module _ (k : Record) where
   unmoved : {q : Record} → q .regs .words ≡ k .regs .words → Remain none k q
-  unmoved p = record { ready = λ e n. ap (λ (r : File). sideAt r e Out .ready) p ∙ sym (and-one (sideAt (k .regs .words) e Out .ready)) }
+  unmoved p = record { ready = λ e n. ap (λ (r : File). sideAt r e Out .ready) p ∙ sym (and-true (sideAt (k .regs .words) e Out .ready)) }
 
   -- by another test
   by : {gone gone′ : ℕ → Bool} {q : Record} → ((e : ℕ) → (e ≡ 0 → ⊥) → gone e ≡ gone′ e) → Remain gone k q → Remain gone′ k q
@@ -66,7 +65,7 @@ module _ (k : Record) where
     where
       go : {q : Record} → Interrupts k q → Remain none k q
       go (not-taken p) = unmoved (ap (λ (x : Record). x .regs .words) p)
-      go (was-taken s p) = record { ready = λ e n. interrupt-side e p ∙ sym (and-one (sideAt (k .regs .words) e Out .ready)) }
+      go (was-taken s p) = record { ready = λ e n. interrupt-side e p ∙ sym (and-true (sideAt (k .regs .words) e Out .ready)) }
 
   module _ (six : Whole (k .regs .words)) where
     -- a call that stores to RXCSRL at most to repair an overrun
@@ -78,7 +77,7 @@ module _ (k : Record) where
         go (inr s) = record {
           ready = λ e n.
               same-ready (a .path) (to-holds k (record-is-sound k (s .0)) six) e n
-              ∙ sym (and-one (sideAt (k .regs .words) e Out .ready));
+              ∙ sym (and-true (sideAt (k .regs .words) e Out .ready));
         }
 
     -- an event of the host that leaves RxPktRdy
@@ -89,14 +88,14 @@ module _ (k : Record) where
           ap (λ (r : File). sideAt r e Out .ready) p
           ∙ ap (λ (x : Side). x .ready) (promised.sides o (k .regs .words) e Out six i)
           ∙ same e (sideAt (k .regs .words) e Out)
-          ∙ sym (and-one (sideAt (k .regs .words) e Out .ready));
+          ∙ sym (and-true (sideAt (k .regs .words) e Out .ready));
     }
 
     -- the registers before the first store of a call
     start : (l : List ℕ) → recordSound k ≡ true → Left (k .regs .words) none (begun k l)
     start l s =
         let t = to-holds k (record-is-sound k s) six .standing in
-        (file.index (k .regs .words), record { six = six; at = refl; low = within-six t; ready = λ e n. sym (and-one (sideAt (k .regs .words) e Out .ready)) })
+        (file.index (k .regs .words), record { six = six; at = refl; low = within-six t; ready = λ e n. sym (and-true (sideAt (k .regs .words) e Out .ready)) })
 
     -- a call that is refused leaves all, and one that is answered what its stores leave
     called-remain : (gone : ℕ → Bool) (c : ControlState) (g : Log) (l : List ℕ) (s p x : Bool) → (p ≡ true → x ≡ false → Left (k .regs .words) gone g)
@@ -116,12 +115,12 @@ module _ (k : Record) where
     unfolding setStalledCall
     stall-remain i s l =
         called-remain (λ e. eqb e i) (afterStall i s (k .«control_state»)) (epStall Out i s (begun k l)) l (short l) (recordSound k) (beyond k i)
-        (λ p x. (i, told-by (λ e n. or-zero (eqb e i)) (stall-leaves Out i s (begun k l) (within i x) (start l p))))
+        (λ p x. (i, told-by (λ e n. or-false (eqb e i)) (stall-leaves Out i s (begun k l) (within i x) (start l p))))
 
     pub stall-in-remain : (i : ℕ) (s : Bool) (l : List ℕ) → Remain none k (step k (setStalled i In s l))
     unfolding setStalledCall
     stall-in-remain i s l =
-        by (λ e n. and-zero (eqb (outcome k (setStalled i In s l) .reply) 0))
+        by (λ e n. and-false (eqb (outcome k (setStalled i In s l) .reply) 0))
         (called-remain none (afterStall i s (k .«control_state»)) (epStall In i s (begun k l)) l (short l) (recordSound k) (beyond k i)
         (λ p x. (i, stall-leaves In i s (begun k l) (within i x) (start l p))))
 
@@ -158,7 +157,7 @@ module _ (k : Record) where
               by (λ e m. sym (ne-eqb e i (λ q. m (q ∙ z)))) (careful-remain (gets-zero k i n l s h x size))
           go false p =
               let q = apart (index i) (begun k l) tt (le-trans h (at-most-six (k .regs .board))) (start l (s .0) .1) in
-              record { ready = told-by (λ e m. or-zero (eqb e i)) (read-leaves i (writeIndex i (begun k l)) q) .ready }
+              record { ready = told-by (λ e m. or-false (eqb e i)) (read-leaves i (writeIndex i (begun k l)) q) .ready }
 
       by-row : {m : ℕ} → ReadCase k i (length b) (length f) (length l) m → Remain (λ e. eqb m 0 && eqb e i) k (tested k i b f l (tests k i b f l) .result .«record»)
       unfolding readDone blocked

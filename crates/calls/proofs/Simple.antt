@@ -31,8 +31,7 @@ use Rattle.record.specs.declared.Record.{Record}
 use Rattle.record.specs.declared.Admission.{Admission}
 use Rattle.record.specs.declared.Admission.the-variants.{Clear, Refused}
 use Rattle.record.specs.Record.{recordSound, endpointsIn, endpointsOf, admissionBy}
-use Rattle.record.proofs.Rows.{none-refused}
-use Rattle.host_rules.proofs.Host.{never}
+use Rattle.record.proofs.Rows.{none-refused, unlike}
 use Rattle.call_rules.specs.Calls.{CallOutcome, stored, unless, short, begun, beyond, busInitCall, enableCall, idled, addressEntry, addressCall}
 use Rattle.call_rules.specs.Reset.{txEnabled, rxEnabled, usedEnabled, enabledBelow, resetStores, resetCall}
 use Rattle.call_rules.specs.Stall.{StalledOutcome, epStall, afterStall, setStalledCall, stalledOf, unlessStalled, isStalledCall}
@@ -100,9 +99,9 @@ module _ (k : Record) where
       (λ c. then none (one (faddr a)) ((leb-true a 127 (passed (lent k l) (leb a 127) c .1), tt), inl tt))
     where
       passed : (t : Admission) (fits : Bool) → addressEntry t fits ≡ Clear → (t ≡ Clear) × (fits ≡ true)
-      passed (Refused x) fits c = (c, never c)
+      passed (Refused x) fits c = (c, unlike c)
       passed Clear true c = (refl, refl)
-      passed Clear false c = never c
+      passed Clear false c = unlike c
 
   pub is-stalled : (e : ℕ) (d : Direction) (l : List ℕ) → Told (Careful b) k l (isStalledCall k e d l)
   unfolding isStalledCall

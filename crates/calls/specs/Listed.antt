@@ -16,6 +16,7 @@ use Rattle.store_list.specs.Stores.{listed}
 use Rattle.store_rules.specs.Stores.{log}
 use Rattle.store_rules.specs.Promise.{Store, does, register, value, isListed}
 use Rattle.event_rules.specs.Events.{intrusbCleared, intrCleared}
+use Rattle.event_rules.specs.declared.BusEvent.the-variants as bus
 use Rattle.event_rules.specs.Promise as events
 use Rattle.event_rules.specs.Promise.{happens}
 use Rattle.record.specs.declared.Record.{Record}
@@ -36,9 +37,9 @@ abbrev pub unlisted : Op → File → File
 unlisted onInterrupt r = intrCleared (intrCleared (intrusbCleared r) In) Out
 unlisted (arrival e b f) r = happens (events.arrival e (length b)) r
 unlisted (collection e f) r = happens (events.collection e) r
-unlisted busReset r = happens events.reset r
-unlisted suspend r = happens events.suspend r
-unlisted resume r = happens events.resume r
+unlisted busReset r = happens (events.onBus bus.Reset) r
+unlisted suspend r = happens (events.onBus bus.Suspend) r
+unlisted resume r = happens (events.onBus bus.Resume) r
 unlisted setupEnd r = happens events.setupend r
 unlisted (underrun e) r = happens (events.miss e In) r
 unlisted (overrun e) r = happens (events.miss e Out) r

@@ -2,7 +2,7 @@
 use Prim.Native.Nat.{ℕ, _+_, _^_, _<_}
 use mathlib.Core.Path.{_≡_, refl, sym, ap, subst, _∙_}
 use mathlib.Core.Logic.{_↔_}
-use mathlib.Core.Bool.{Bool, true, false, _||_, cond}
+use mathlib.Core.Bool.{Bool, true, false, _||_, cond, and-false, or-false, or-true}
 use mathlib.Core.List.{List}
 use native.Mathlib.Omega.{arith}
 use borrow.Author.Tests.{eq-eqb, ne-eqb}
@@ -11,7 +11,6 @@ use lib.ListN.{length}
 use Rattle.laws.specs.Words.{bit, raised}
 use Rattle.laws.proofs.Words.{bit-or}
 use Rattle.laws.proofs.Range.{same, same→eq, grid-at}
-use Rattle.laws.proofs.Tests.{and-zero, or-zero, or-one}
 use Rattle.board.specs.declared.Direction.{Direction}
 use Rattle.board.specs.declared.Direction.the-variants.{Out, In}
 use Rattle.csr.specs.declared.Side.{Side}
@@ -24,7 +23,7 @@ use Rattle.csr.specs.Control.{dropped, txStored, rxStored, txcsrlOf, txcsrlSet,
 use Rattle.csr.proofs.Sides.{out-in}
 use Rattle.csr.proofs.AsWritten.{drops, not-empty}
 use Rattle.csr.proofs.Modified.{tx-flushed}
-use Rattle.csr.proofs.Stored.{dropped-rest, tx-stall-number, rx-stall-number, tx-flush-number, both-serviced, both-number}
+use Rattle.csr.proofs.Stored.{dropped-rest, tx-stall-number, rx-stall-number, tx-flush-number, both-serviced, both-number, dropped-twice}
 use Rattle.register_file.specs.Registers as file
 use Rattle.register_file.specs.Registers.{Whole, sideAt, chosen, setupend, enabledOf}
 use Rattle.register_file.specs.Control.{csr0lRead, txcsrlRead}
@@ -42,11 +41,12 @@ use Rattle.store_rules.proofs.Promises.{sides, rest, modify-intre, modify-csr0l
 use Rattle.store_rules.proofs.Others.{others}
 use Rattle.store_rules.proofs.Named.{named-enabled}
 use Rattle.common_rules.specs.Common.{selected, writeCsrl}
-use Rattle.common_rules.specs.Kept.{NoPacket, SameBits, SameRest, Stored, entered}
+use Rattle.common_rules.specs.Kept.{SameRest, Stored, entered}
 use Rattle.common_rules.proofs.Stands.{Stands, begin, wordsWith, enables, of-txcsrl, of-rxcsrl, of-iso, of-maxp, next, rest-kept, as-named}
 use Rattle.common_rules.proofs.Stalling.{Halted, txBits, rxBits, tx-halted, rx-halted}
 use Rattle.common_rules.specs.Enable.{flushedZero, enabledZero, sized, settled, isoWritten, waits, flush, flushed, enabledOther, enabled, isochronous, epTxEnable, epRxEnable}
 use Rattle.common_rules.specs.Enabling.{Raised, enableStores, Ready, Enables, EnablesZero}
+use Rattle.csr.specs.Kept.{NoPacket, SameBits}
 
 -- a word with one bit raised
 powerBit : ℕ → ℕ → Bool
@@ -60,8 +60,8 @@ power-bit e j h l = same→eq _ _ (grid-at powerBit 6 16 tt e j h l)
 raises : (w e : ℕ) → e < 6 → Raised e w (raised w e)
 unfolding raised
 raises w e h = record {
-  set = bit-or w (2 ^ e) e ∙ ap (λ (b : Bool). bit w e || b) (power-bit e e h (omega arith) ∙ eq-eqb e e refl) ∙ or-one (bit w e);
-  others = λ j l n. bit-or w (2 ^ e) j ∙ ap (λ (b : Bool). bit w j || b) (power-bit e j h l ∙ ne-eqb j e n) ∙ or-zero (bit w j);
+  set = bit-or w (2 ^ e) e ∙ ap (λ (b : Bool). bit w e || b) (power-bit e e h (omega arith) ∙ eq-eqb e e refl) ∙ or-true (bit w e);
+  others = λ j l n. bit-or w (2 ^ e) j ∙ ap (λ (b : Bool). bit w j || b) (power-bit e j h l ∙ ne-eqb j e n) ∙ or-false (bit w j);
 }
 
 -- ISO is asked for exactly where the type is isochronous
@@ -111,15 +111,14 @@ ready-empty f y = record { maxp = f .maxp; isochronous = f .isochronous; empty =
 
 ready-flushed : {iso : Bool} {size : ℕ} {s t : Side} → Facts iso size s t → Ready iso size s (dropped true (dropped true t))
 ready-flushed {t = t} f =
-    let a = dropped-rest true t in
-    let b = dropped-rest true (dropped true t) in
+    let a = dropped-twice true true t in
     record {
-      maxp = b .maxp ∙ a .maxp ∙ f .maxp;
-      isochronous = b .iso ∙ a .iso ∙ f .isochronous;
+      maxp = a .maxp ∙ f .maxp;
+      isochronous = a .iso ∙ f .isochronous;
       empty = λ _. record { ready = drops (dropped true t) .0; length = drops (dropped true t) .1 };
-      halt = b .stall ∙ a .stall ∙ f .halt;
-      sent = b .stalled ∙ a .stalled ∙ f .sent;
-      missed = b .missed ∙ a .missed ∙ f .missed;
+      halt = a .stall ∙ f .halt;
+      sent = a .stalled ∙ f .sent;
+      missed = a .missed ∙ f .missed;
     }
 
 module _ (e size : ℕ) (g : Log) (six : Whole (g .regs)) (low : e < 6) (up : e ≡ 0 → ⊥) where
@@ -318,30 +317,10 @@ module _ (g : Log) (six : Whole (g .regs)) where
   }
 
   same-in : SameBits (sideAt (g .regs) 0 In) (sideAt (h3 .regs) 0 In)
-  same-in =
-      let k = dropped-rest true (sideAt (g .regs) 0 In) in
-      let p = side3 In ∙ ap (dropped true) in2 in
-      record {
-        missed = ap (λ (s : Side). s .missed) p ∙ k .missed;
-        stall = ap (λ (s : Side). s .stall) p ∙ k .stall;
-        stalled = ap (λ (s : Side). s .stalled) p ∙ k .stalled;
-        iso = ap (λ (s : Side). s .iso) p ∙ k .iso;
-        maxp = ap (λ (s : Side). s .maxp) p ∙ k .maxp;
-      }
+  same-in = subst (SameBits _) (sym (side3 In ∙ ap (dropped true) in2)) (dropped-rest true (sideAt (g .regs) 0 In))
 
   same-out : SameBits (sideAt (g .regs) 0 Out) (sideAt (h3 .regs) 0 Out)
-  same-out =
-      let b = bits .«serviced_rx_pkt_rdy» in
-      let j = dropped-rest b (sideAt (g .regs) 0 Out) in
-      let k = dropped-rest true (dropped b (sideAt (g .regs) 0 Out)) in
-      let p = side3 Out ∙ ap (dropped true) out2 in
-      record {
-        missed = ap (λ (s : Side). s .missed) p ∙ k .missed ∙ j .missed;
-        stall = ap (λ (s : Side). s .stall) p ∙ k .stall ∙ j .stall;
-        stalled = ap (λ (s : Side). s .stalled) p ∙ k .stalled ∙ j .stalled;
-        iso = ap (λ (s : Side). s .iso) p ∙ k .iso ∙ j .iso;
-        maxp = ap (λ (s : Side). s .maxp) p ∙ k .maxp ∙ j .maxp;
-      }
+  same-out = subst (SameBits _) (sym (side3 Out ∙ ap (dropped true) out2)) (dropped-twice (bits .«serviced_rx_pkt_rdy») true (sideAt (g .regs) 0 Out))
 
   same-bits : (d : Direction) → SameBits (sideAt (g .regs) 0 d) (sideAt (h3 .regs) 0 d)
   same-bits Out = same-out
@@ -377,7 +356,7 @@ module _ (g : Log) (six : Whole (g .regs)) where
         otherWord = words3 Out ∙ k1 .enabled Out;
         empty = empty;
         bits = same-bits;
-        ended = o3 .ended ∙ o2 .ended ∙ rw (both-serviced (csr0lRead (h1 .regs))) (and-zero (setupend (h1 .regs)));
+        ended = o3 .ended ∙ o2 .ended ∙ rw (both-serviced (csr0lRead (h1 .regs))) (and-false (setupend (h1 .regs)));
         others = elsewhere;
         rest = rest3;
         selected = at3;

@@ -11,11 +11,12 @@ use Rattle.board.specs.declared.Direction.{Direction}
 use Rattle.board.specs.declared.Direction.the-variants.{Out, In}
 use Rattle.csr.specs.declared.Side.{Side}
 use Rattle.register_file.specs.Registers.{File, sideAt, chosen}
-use Rattle.register_file.proofs.Readings.{tx-missed, rx-missed, reselected, chosen-selected}
+use Rattle.register_file.proofs.Readings.{tx-missed, rx-missed, chosen-selected}
 use Rattle.store_rules.specs.Stores.{Log, writeIndex}
 use Rattle.store_rules.proofs.Promises.{index-selects}
 use Rattle.common_rules.specs.Overrun.{overRunCleared, repaired, repairedBelow, checkOverrun, missedAt, missedTo, selectedOnly, selectedBelow}
 use Rattle.common_rules.proofs.Overrun.{no-under-run, no-over-run}
+use Rattle.common_rules.proofs.Stands.{at-start}
 
 -- a turn of the loop that looks
 pub missed-none : (w : File) → missedTo 0 w ≡ false
@@ -41,15 +42,12 @@ nothing (suc n) w p e h l = go (nothing n w (neither _ _ p .0) e h) (ℕ-discret
 
 -- an index store: the endpoint is selected, and every side is as it was
 module _ (g : Log) (e : ℕ) where
-  select-side : (f : ℕ) (d : Direction) → sideAt (writeIndex e g .regs) f d ≡ sideAt (g .regs) f d
-  select-side f d = ap (λ (r : File). sideAt r f d) (index-selects e g) ∙ reselected (g .regs) e f d
-
   select-missed : (f : ℕ) → missedAt (writeIndex e g .regs) f ≡ missedAt (g .regs) f
   unfolding missedAt
-  select-missed f = λ i. select-side f In i .missed || select-side f Out i .missed
+  select-missed f = λ i. at-start g e f In i .missed || at-start g e f Out i .missed
 
   chosen-side : (d : Direction) → chosen (writeIndex e g .regs) d ≡ sideAt (g .regs) e d
-  chosen-side d = ap (λ (r : File). chosen r d) (index-selects e g) ∙ chosen-selected (g .regs) e d ∙ reselected (g .regs) e e d
+  chosen-side d = ap (λ (r : File). chosen r d) (index-selects e g) ∙ chosen-selected (g .regs) e d
 
   -- where the endpoint has missed nothing, its turn is the index store
   only : missedAt (g .regs) e ≡ false → selectedOnly g e ≡ repaired g e

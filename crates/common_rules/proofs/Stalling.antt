@@ -1,11 +1,10 @@
 -- Stalling and unstalling leave what specs/Stalling.antt says. Assumes nothing.
 use Prim.Native.Nat.{ℕ, _+_, _<_}
 use mathlib.Core.Path.{_≡_, refl, sym, ap, subst, _∙_}
-use mathlib.Core.Bool.{Bool, true, false, not, cond}
+use mathlib.Core.Bool.{Bool, true, false, not, cond, and-true}
 use native.Mathlib.Omega.{arith}
 use borrow.Author.Tests.{ne-eqb}
 use lib.Dec.{lit<}
-use Rattle.laws.proofs.Tests.{and-one}
 use Rattle.board.specs.declared.Direction.{Direction}
 use Rattle.board.specs.declared.Direction.the-variants.{Out, In}
 use Rattle.csr.specs.declared.Side.{Side}
@@ -143,7 +142,7 @@ module _ (b : Bool) (g : Log) (six : Whole (g .regs)) where
           halt = ap (λ (s : Side). s .stall) in-side ∙ zero-stall (zeroBits t) _;
           sent = ap (λ (s : Side). s .stalled) in-side ∙ zero-sent-cleared (zeroBits t) _ refl;
           others = elsewhere;
-          ended = k .ended ∙ and-one _ ∙ start .ended;
+          ended = k .ended ∙ and-true _ ∙ start .ended;
           enabled = enabled;
           rest = the-rest;
           selected = at;

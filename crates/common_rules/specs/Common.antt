@@ -7,7 +7,6 @@ use lib.Dec.{eqb}
 use Rattle.board.specs.declared.Direction.{Direction}
 use Rattle.board.specs.declared.Direction.the-variants.{Out, In}
 use Rattle.register_file.specs.Registers.{File}
-use Rattle.csr.specs.Control.{csr0lBits, txcsrlBits, rxcsrlBits}
 use Rattle.register_file.specs.Control.{csr0lRead, txcsrlRead, rxcsrlRead}
 use Rattle.store_rules.specs.Stores.{Log, writeIndex, writeCsr0l, writeTxcsrl, writeRxcsrl, writeIntrusbe, writeIntre}
 
@@ -22,11 +21,11 @@ selected e atZero atOther g = cond (eqb e 0) (atZero (writeIndex e g)) (atOther 
 -- the source's `write` of CSR0L, and of RXCSRL or TXCSRL: from zeros, with the two bits that its closures may set.
 -- SentStall, which they set to false, is so already.
 unfoldable pub stallCsr0l : Bool → Bool → Log → Log
-stallCsr0l stall serviced g = writeCsr0l (csr0lBits false false false false false stall serviced false) g
+stallCsr0l stall serviced g = writeCsr0l (record { «rx_pkt_rdy» = false; «tx_pkt_rdy» = false; «sent_stall» = false; «data_end» = false; «setup_end» = false; «send_stall» = stall; «serviced_rx_pkt_rdy» = serviced; «serviced_setup_end» = false }) g
 
 unfoldable pub writeCsrl : Direction → Bool → Bool → Log → Log
-writeCsrl Out stall toggle g = writeRxcsrl (rxcsrlBits false false false false false stall false toggle) g
-writeCsrl In stall toggle g = writeTxcsrl (txcsrlBits false false false false stall false toggle) g
+writeCsrl Out stall toggle g = writeRxcsrl (record { «rx_pkt_rdy» = false; «fifo_full» = false; «over_run» = false; «data_error» = false; «flush_fifo» = false; «send_stall» = stall; «sent_stall» = false; «clr_data_tog» = toggle }) g
+writeCsrl In stall toggle g = writeTxcsrl (record { «tx_pkt_rdy» = false; «fifo_not_empty» = false; «under_run» = false; «flush_fifo» = false; «send_stall» = stall; «sent_stall» = false; «clr_data_tog» = toggle }) g
 
 -- `ep_tx_stall`
 unfoldable pub epTxStall : ℕ → Bool → Log → Log

@@ -14,7 +14,8 @@ use Rattle.register_file.specs.Registers.{sideAt, index, setupend, enabledOf}
 use Rattle.register_file.specs.Control.{csr0lRead}
 use Rattle.store_list.specs.Stores.{INDEX, CSR0L, CSR0H, TXCSRL, RXCSRL, TXCSRH, RXCSRH, TXMAXP, RXMAXP, INTRTXE, INTRRXE}
 use Rattle.store_rules.specs.Stores.{Log}
-use Rattle.common_rules.specs.Kept.{NoPacket, SameBits, SameRest, Stored, to, Lists}
+use Rattle.common_rules.specs.Kept.{SameRest, Stored, to, Lists}
+use Rattle.csr.specs.Kept.{NoPacket, SameBits}
 
 -- `modify(|w| w.set_ep_txe(index, true))`: the endpoint's bit is set, every other of the sixteen is as it was
 pub record Raised (e : ℕ) (before after : ℕ) : Type 0 where

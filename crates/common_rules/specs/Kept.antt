@@ -1,33 +1,13 @@
--- Words for what a step of the driver leaves: a packet, the registers that no side holds, and what it lists.
+-- Words for what a step of the driver leaves: the registers that no side holds, and what it lists. (Of a side: Kept of csr.)
 -- Assumes nothing.
 use Prim.Native.Nat.{ℕ, _+_}
 use mathlib.Core.Path.{_≡_}
-use mathlib.Core.Bool.{false}
 use mathlib.Core.List.{List, [], _∷_}
 use lib.ListN.{length}
 use Rattle.board.specs.declared.Direction.{Direction}
-use Rattle.csr.specs.declared.Side.{Side}
 use Rattle.register_file.specs.Registers.{File, faddr, power, intrusbe, intrusb, intrOf}
 use Rattle.store_list.specs.Stores.{listed}
 use Rattle.store_rules.specs.Stores.{Log}
-
--- no packet waits at the side: "A drop makes its length 0"
-pub record NoPacket (s : Side) : Type 0 where
-  pub ready : s .ready ≡ false
-  pub length : s .len ≡ 0
-
--- the packet that waits at the side is the one that waited, or none did and none does
-pub record SamePacket (s t : Side) : Type 0 where
-  pub ready : t .ready ≡ s .ready
-  pub length : t .len ≡ s .len
-
--- all of the side but its packet
-pub record SameBits (s t : Side) : Type 0 where
-  pub missed : t .missed ≡ s .missed
-  pub stall : t .stall ≡ s .stall
-  pub stalled : t .stalled ≡ s .stalled
-  pub iso : t .iso ≡ s .iso
-  pub maxp : t .maxp ≡ s .maxp
 
 -- the registers that no side holds, but for the selection, SetupEnd and the enable words of the endpoints
 pub record SameRest (r q : File) : Type 0 where

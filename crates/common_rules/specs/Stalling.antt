@@ -11,7 +11,8 @@ use Rattle.csr.specs.declared.Side.{Side}
 use Rattle.register_file.specs.Registers.{sideAt, index, setupend, enabledOf}
 use Rattle.store_list.specs.Stores.{INDEX, CSR0L, TXCSRL, RXCSRL}
 use Rattle.store_rules.specs.Stores.{Log}
-use Rattle.common_rules.specs.Kept.{NoPacket, SamePacket, SameRest, to, Lists}
+use Rattle.common_rules.specs.Kept.{SameRest, to, Lists}
+use Rattle.csr.specs.Kept.{NoPacket, SamePacket}
 
 -- at 1 to 5, stalled or unstalled: out drops the packet that was received, in keeps the packet that waits to be sent
 abbrev pub Packet : Direction → Side → Side → Type 0

@@ -15,6 +15,3 @@ module _ (c : ControlState) (n : ℕ) where
 
   pub never-below : c .«tx_len» ≤ n → decreased c n .«tx_len» ≡ 0
   never-below h = omega arith
-
-  pub same-state : decreased c n .state ≡ c .state
-  same-state = refl

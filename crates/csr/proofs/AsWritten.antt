@@ -2,10 +2,9 @@
 -- Assumes nothing.
 use Prim.Native.Nat.{ℕ, _*_}
 use mathlib.Core.Path.{_≡_, refl}
-use mathlib.Core.Bool.{Bool, true, false, cond}
+use mathlib.Core.Bool.{Bool, true, false, cond, and-false, and-true, or-false, or-true}
 use mathlib.Core.List.{[], _∷_}
 use native.Mathlib.Omega.{arith}
-use Rattle.laws.proofs.Tests.{and-zero, and-one, or-zero, or-one}
 use Rattle.csr.specs.declared.Side.{Side}
 use Rattle.csr.specs.declared.Csr0l.{Csr0l}
 use Rattle.csr.specs.declared.Txcsrl.{Txcsrl}
@@ -84,28 +83,28 @@ zero-stall w s = refl
 module _ (w : Txcsrl) (s : Side) where
   pub sent-cleared : w .«sent_stall» ≡ false → txStored w s .stalled ≡ false
   unfolding txStored
-  sent-cleared e = rw e (and-zero (s .stalled))
+  sent-cleared e = rw e (and-false (s .stalled))
 
   pub sent-kept : w .«sent_stall» ≡ true → txStored w s .stalled ≡ s .stalled
   unfolding txStored
-  sent-kept e = rw e (and-one (s .stalled))
+  sent-kept e = rw e (and-true (s .stalled))
 
   pub underrun-cleared : w .«under_run» ≡ false → txStored w s .missed ≡ false
   unfolding txStored
-  underrun-cleared e = rw e (and-zero (s .missed))
+  underrun-cleared e = rw e (and-false (s .missed))
 
   pub underrun-kept : w .«under_run» ≡ true → txStored w s .missed ≡ s .missed
   unfolding txStored
-  underrun-kept e = rw e (and-one (s .missed))
+  underrun-kept e = rw e (and-true (s .missed))
 
   -- "A written 1 sets TxPktRdy; a written 0 changes nothing."
   pub ready-set : w .«flush_fifo» ≡ false → w .«tx_pkt_rdy» ≡ true → txStored w s .ready ≡ true
   unfolding txStored
-  ready-set f e = rw (f, e) (or-one (s .ready))
+  ready-set f e = rw (f, e) (or-true (s .ready))
 
   pub ready-kept : w .«flush_fifo» ≡ false → w .«tx_pkt_rdy» ≡ false → txStored w s .ready ≡ s .ready
   unfolding txStored
-  ready-kept f e = rw (f, e) (or-zero (s .ready))
+  ready-kept f e = rw (f, e) (or-false (s .ready))
 
   pub packet-kept : w .«flush_fifo» ≡ false → txStored w s .len ≡ s .len
   unfolding txStored
@@ -124,32 +123,32 @@ module _ (w : Txcsrl) (s : Side) where
 module _ (w : Rxcsrl) (s : Side) where
   pub rx-sent-cleared : w .«sent_stall» ≡ false → rxStored w s .stalled ≡ false
   unfolding rxStored
-  rx-sent-cleared e = rw e (and-zero (s .stalled))
+  rx-sent-cleared e = rw e (and-false (s .stalled))
 
   pub rx-sent-kept : w .«sent_stall» ≡ true → rxStored w s .stalled ≡ s .stalled
   unfolding rxStored
-  rx-sent-kept e = rw e (and-one (s .stalled))
+  rx-sent-kept e = rw e (and-true (s .stalled))
 
   pub overrun-cleared : w .«over_run» ≡ false → rxStored w s .missed ≡ false
   unfolding rxStored
-  overrun-cleared e = rw e (and-zero (s .missed))
+  overrun-cleared e = rw e (and-false (s .missed))
 
   pub overrun-kept : w .«over_run» ≡ true → rxStored w s .missed ≡ s .missed
   unfolding rxStored
-  overrun-kept e = rw e (and-one (s .missed))
+  overrun-kept e = rw e (and-true (s .missed))
 
   -- "Clearing RxPktRdy drops the packet. A drop makes its length 0 and leaves the bytes": no store to a control register has the bytes
   pub rx-cleared : w .«rx_pkt_rdy» ≡ false → (rxStored w s .ready ≡ false) × (rxStored w s .len ≡ 0)
   unfolding rxStored
-  rx-cleared e = (rw (e, or-one (w .«flush_fifo»), and-zero (s .ready)), rw (e, or-one (w .«flush_fifo»)))
+  rx-cleared e = (rw (e, or-true (w .«flush_fifo»), and-false (s .ready)), rw (e, or-true (w .«flush_fifo»)))
 
   pub rx-kept : w .«flush_fifo» ≡ false → w .«rx_pkt_rdy» ≡ true → (rxStored w s .ready ≡ s .ready) × (rxStored w s .len ≡ s .len)
   unfolding rxStored
-  rx-kept f e = (rw (f, e, and-one (s .ready)), rw (f, e))
+  rx-kept f e = (rw (f, e, and-true (s .ready)), rw (f, e))
 
   pub rx-flushed : w .«flush_fifo» ≡ true → (rxStored w s .ready ≡ false) × (rxStored w s .len ≡ 0)
   unfolding rxStored
-  rx-flushed f = (rw (f, and-zero (s .ready)), rw f)
+  rx-flushed f = (rw (f, and-false (s .ready)), rw f)
 
   pub rx-rest : (rxStored w s .iso ≡ s .iso) × (rxStored w s .maxp ≡ s .maxp)
   unfolding rxStored
@@ -159,19 +158,19 @@ module _ (w : Rxcsrl) (s : Side) where
 module _ (w : Csr0l) (s : Side) where
   pub zero-sent-cleared : w .«sent_stall» ≡ false → zeroTxStored w s .stalled ≡ false
   unfolding zeroTxStored
-  zero-sent-cleared e = rw e (and-zero (s .stalled))
+  zero-sent-cleared e = rw e (and-false (s .stalled))
 
   pub zero-sent-kept : w .«sent_stall» ≡ true → zeroTxStored w s .stalled ≡ s .stalled
   unfolding zeroTxStored
-  zero-sent-kept e = rw e (and-one (s .stalled))
+  zero-sent-kept e = rw e (and-true (s .stalled))
 
   pub zero-ready-set : w .«tx_pkt_rdy» ≡ true → zeroTxStored w s .ready ≡ true
   unfolding zeroTxStored
-  zero-ready-set e = rw e (or-one (s .ready))
+  zero-ready-set e = rw e (or-true (s .ready))
 
   pub zero-ready-kept : w .«tx_pkt_rdy» ≡ false → zeroTxStored w s .ready ≡ s .ready
   unfolding zeroTxStored
-  zero-ready-kept e = rw e (or-zero (s .ready))
+  zero-ready-kept e = rw e (or-false (s .ready))
 
   -- what is no bit of CSR0L stays, and so does the packet
   pub zero-rest :
@@ -182,7 +181,7 @@ module _ (w : Csr0l) (s : Side) where
 
 pub drops : (s : Side) → (dropped true s .ready ≡ false) × (dropped true s .len ≡ 0)
 unfolding dropped
-drops s = (and-zero (s .ready), refl)
+drops s = (and-false (s .ready), refl)
 
 -- "FIFONotEmpty reads as TxPktRdy. FIFOFull and DataError read 0." "DataEnd, Serviced, Flush and ClrDataTog read 0."
 pub not-empty : (s : Side) → txcsrlOf s .«fifo_not_empty» ≡ txcsrlOf s .«tx_pkt_rdy»

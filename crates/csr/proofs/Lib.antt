@@ -4,3 +4,4 @@ pub mod Sides
 pub mod Soundness
 pub mod Stored
 pub mod Tame
+pub mod Bits

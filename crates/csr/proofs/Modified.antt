@@ -2,8 +2,7 @@
 -- Assumes nothing.
 use Prim.Native.Nat.{ℕ}
 use mathlib.Core.Path.{_≡_, refl}
-use mathlib.Core.Bool.{Bool, true, false, not, _&&_}
-use Rattle.laws.proofs.Tests.{and-zero, and-self, or-one, or-self}
+use mathlib.Core.Bool.{Bool, true, false, not, _&&_, and-false, or-true, and-self, or-self}
 use Rattle.csr.specs.declared.Side.{Side}
 use Rattle.csr.specs.declared.TxcsrlSet.{TxcsrlSet}
 use Rattle.csr.specs.declared.TxcsrlSet.the-variants as txcsrl
@@ -21,23 +20,23 @@ repaired s = record { ready = s .ready; missed = false; stall = s .stall; stalle
 
 pub tx-readied : (s : Side) → txStored (txcsrlSet txcsrl.TxPktRdy (txcsrlOf s)) s ≡ readied s
 unfolding txStored txcsrlSet txcsrlOf
-tx-readied s = rw (or-one (s .ready), and-self (s .missed), and-self (s .stalled))
+tx-readied s = rw (or-true (s .ready), and-self (s .missed), and-self (s .stalled))
 
 pub tx-flushed : (s : Side) → txStored (txcsrlSet txcsrl.FlushFifo (txcsrlOf s)) s ≡ dropped true s
 unfolding txStored txcsrlSet txcsrlOf dropped
-tx-flushed s = rw (and-self (s .missed), and-self (s .stalled), and-zero (s .ready))
+tx-flushed s = rw (and-self (s .missed), and-self (s .stalled), and-false (s .ready))
 
 pub tx-repaired : (s : Side) → txStored (txcsrlSet txcsrl.NoUnderRun (txcsrlOf s)) s ≡ repaired s
 unfolding txStored txcsrlSet txcsrlOf
-tx-repaired s = rw (or-self (s .ready), and-zero (s .missed), and-self (s .stalled))
+tx-repaired s = rw (or-self (s .ready), and-false (s .missed), and-self (s .stalled))
 
 pub rx-read : (s : Side) → rxStored (rxcsrlSet rxcsrl.NoRxPktRdy (rxcsrlOf s)) s ≡ dropped true s
 unfolding rxStored rxcsrlSet rxcsrlOf dropped
 rx-read s = rw (and-self (s .missed), and-self (s .stalled))
 
-pub rx-flushed : (s : Side) → rxStored (rxcsrlSet rxcsrl.FlushFifo (rxcsrlOf s)) s ≡ dropped true s
+pub rx-flush : (s : Side) → rxStored (rxcsrlSet rxcsrl.FlushFifo (rxcsrlOf s)) s ≡ dropped true s
 unfolding rxStored rxcsrlSet rxcsrlOf dropped
-rx-flushed s = rw (and-self (s .missed), and-self (s .stalled))
+rx-flush s = rw (and-self (s .missed), and-self (s .stalled))
 
 -- a packet that waits stays; where none waits the length is 0 already
 ready-stays : (b : Bool) → (b && not (not b)) ≡ b
@@ -50,7 +49,7 @@ length-stays false n h = rw (h refl)
 
 pub rx-repaired : (size : ℕ) (s : Side) → SideOk size s → rxStored (rxcsrlSet rxcsrl.NoOverRun (rxcsrlOf s)) s ≡ repaired s
 unfolding rxStored rxcsrlSet rxcsrlOf
-rx-repaired size s ok = rw (ready-stays (s .ready), and-zero (s .missed), and-self (s .stalled), length-stays (s .ready) (s .len) (ok .none))
+rx-repaired size s ok = rw (ready-stays (s .ready), and-false (s .missed), and-self (s .stalled), length-stays (s .ready) (s .len) (ok .none))
 
 -- a `modify` writes the SendStall that it read
 pub txcsrl-stall : (s : TxcsrlSet) (x : Side) → txcsrlSet s (txcsrlOf x) .«send_stall» ≡ x .stall

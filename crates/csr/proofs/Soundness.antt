@@ -1,18 +1,12 @@
 -- Reply 16's test of one side, and what it says.
 -- Assumes nothing.
-use Prim.Native.Nat.{ℕ, suc, _+_, _*_}
-use mathlib.Core.Path.{_≡_, refl, sym, ap, _∙_}
+use Prim.Native.Nat.{ℕ}
+use mathlib.Core.Path.{_≡_, refl, sym, _∙_}
 use mathlib.Core.Bool.{Bool, true, false, cond}
-use mathlib.Core.List.{List}
 use native.Mathlib.Omega.{arith}
 use lib.Dec.{leb}
 use borrow.Author.Tests.{leb-true, le-leb}
-use lib.ListN.{getD, drop}
-use lib.Seq.{getD-drop}
 use Rattle.laws.proofs.Tests.{clash}
-use Rattle.board.specs.Table.{place}
-use Rattle.board.specs.declared.Direction.{Direction}
-use Rattle.board.specs.declared.Direction.the-variants.{Out, In}
 use Rattle.csr.specs.declared.Side.{Side}
 use Rattle.csr.specs.Registers.{noSide}
 use Rattle.csr.specs.Sound.{sideSound, SideOk}
@@ -36,8 +30,3 @@ side-test n s k = go (s .ready) refl
 
 pub none-ok : (n : ℕ) → SideOk n noSide
 none-ok n = record { fits = omega arith; none = λ _. refl }
-
--- every side
-pub later : (sizes : List ℕ) (e : ℕ) (d : Direction) → getD (drop 2 sizes) (place e d) 0 ≡ getD sizes (place (suc e) d) 0
-later sizes e Out = let k : 2 + (2 * e + 1) ≡ 2 * suc e + 1 = omega arith in getD-drop 2 sizes (2 * e + 1) 0 ∙ ap (λ (i : ℕ). getD sizes i 0) k
-later sizes e In = let k : 2 + 2 * e ≡ 2 * suc e = omega arith in getD-drop 2 sizes (2 * e) 0 ∙ ap (λ (i : ℕ). getD sizes i 0) k

@@ -2,30 +2,27 @@
 -- Assumes nothing.
 use Prim.Native.Nat.{ℕ, _+_}
 use mathlib.Core.Path.{_≡_, refl}
-use mathlib.Core.Bool.{Bool, true, false, not, cond}
+use mathlib.Core.Bool.{Bool, true, false, not, cond, and-true}
 use native.Mathlib.Omega.{arith}
-use Rattle.laws.proofs.Tests.{and-one}
 use Rattle.csr.specs.declared.Side.{Side}
 use Rattle.csr.specs.declared.Csr0l.{Csr0l}
 use Rattle.csr.specs.declared.Csr0lSet.the-variants as csr0l
 use Rattle.csr.specs.declared.TxcsrlSet.the-variants as txcsrl
+use Rattle.csr.specs.Kept.{SameBits}
 use Rattle.csr.specs.Control.{zeroTxStored, dropped, csr0lNumber, txcsrlNumber, rxcsrlNumber, csr0lBits, txcsrlBits, rxcsrlBits, csr0lSet, txcsrlOf, txcsrlSet}
 
 -- a packet goes, and nothing else
-pub record Rest (s t : Side) : Type 0 where
-  pub missed : t .missed ≡ s .missed
-  pub stall : t .stall ≡ s .stall
-  pub stalled : t .stalled ≡ s .stalled
-  pub iso : t .iso ≡ s .iso
-  pub maxp : t .maxp ≡ s .maxp
-
-pub dropped-rest : (b : Bool) (s : Side) → Rest s (dropped b s)
+pub dropped-rest : (b : Bool) (s : Side) → SameBits s (dropped b s)
 unfolding dropped
 dropped-rest b s = record { missed = refl; stall = refl; stalled = refl; iso = refl; maxp = refl }
 
+pub dropped-twice : (b c : Bool) (s : Side) → SameBits s (dropped c (dropped b s))
+unfolding dropped
+dropped-twice b c s = record { missed = refl; stall = refl; stalled = refl; iso = refl; maxp = refl }
+
 pub not-dropped : (s : Side) → dropped false s ≡ s
 unfolding dropped
-not-dropped s = rw (and-one (s .ready))
+not-dropped s = rw (and-true (s .ready))
 
 -- endpoint 0's transmit side: no store to CSR0L takes its packet
 pub zero-packet-kept : (w : Csr0l) (s : Side) → zeroTxStored w s .len ≡ s .len

@@ -3,10 +3,10 @@
 -- Assumes nothing.
 use Prim.Native.Nat.{ℕ, _≤_}
 use mathlib.Core.Path.{_≡_, refl, sym, _∙_}
-use mathlib.Core.Bool.{Bool, true, false, _||_, cond}
+use mathlib.Core.Bool.{Bool, true, false, cond, and-true}
 use native.Mathlib.Omega.{arith}
 use native.Mathlib.Nat.{le-trans}
-use Rattle.laws.proofs.Tests.{clash, and-one}
+use Rattle.laws.proofs.Tests.{clash, neither}
 use Rattle.board.specs.declared.Direction.{Direction}
 use Rattle.board.specs.declared.Direction.the-variants.{Out, In}
 use Rattle.csr.specs.declared.Side.{Side}
@@ -70,13 +70,9 @@ rx-tame w s = go (w .«flush_fifo») (w .«rx_pkt_rdy») refl refl
 -- to CSR0L, on endpoint 0's two sides
 pub zero-tame : (w : Csr0l) (s : Side) → Tame s (zeroTxStored w s)
 unfolding zeroTxStored
-zero-tame w s = record { shorter = omega arith; none = λ old e. old (unready (s .ready) (w .«tx_pkt_rdy») e) }
-  where
-    unready : (a b : Bool) → (a || b) ≡ false → a ≡ false
-    unready true b e = e
-    unready false b e = refl
+zero-tame w s = record { shorter = omega arith; none = λ old e. old (neither (s .ready) (w .«tx_pkt_rdy») e .0) }
 
 pub dropped-tame : (b : Bool) (s : Side) → Tame s (dropped b s)
 unfolding dropped
 dropped-tame true s = gone refl
-dropped-tame false s = alike (and-one (s .ready)) refl
+dropped-tame false s = alike (and-true (s .ready)) refl

@@ -168,18 +168,18 @@ dropped drop s = record {
 
 -- what the source's closures set in a `modify`, a case for each that it has
 unfoldable pub csr0lSet : Csr0lSet → Csr0l → Csr0l
-csr0lSet csr0l.TxPktRdy w = csr0lBits (w .«rx_pkt_rdy») true (w .«sent_stall») (w .«data_end») (w .«setup_end») (w .«send_stall») (w .«serviced_rx_pkt_rdy») (w .«serviced_setup_end»)
-csr0lSet csr0l.DataEnd w = csr0lBits (w .«rx_pkt_rdy») (w .«tx_pkt_rdy») (w .«sent_stall») true (w .«setup_end») (w .«send_stall») (w .«serviced_rx_pkt_rdy») (w .«serviced_setup_end»)
-csr0lSet csr0l.ServicedRxPktRdy w = csr0lBits (w .«rx_pkt_rdy») (w .«tx_pkt_rdy») (w .«sent_stall») (w .«data_end») (w .«setup_end») (w .«send_stall») true (w .«serviced_setup_end»)
-csr0lSet csr0l.ServicedSetupEnd w = csr0lBits (w .«rx_pkt_rdy») (w .«tx_pkt_rdy») (w .«sent_stall») (w .«data_end») (w .«setup_end») (w .«send_stall») (w .«serviced_rx_pkt_rdy») true
-csr0lSet csr0l.ServicedBoth w = csr0lBits (w .«rx_pkt_rdy») (w .«tx_pkt_rdy») (w .«sent_stall») (w .«data_end») (w .«setup_end») (w .«send_stall») true true
+csr0lSet csr0l.TxPktRdy w = record { «rx_pkt_rdy» = w .«rx_pkt_rdy»; «tx_pkt_rdy» = true; «sent_stall» = w .«sent_stall»; «data_end» = w .«data_end»; «setup_end» = w .«setup_end»; «send_stall» = w .«send_stall»; «serviced_rx_pkt_rdy» = w .«serviced_rx_pkt_rdy»; «serviced_setup_end» = w .«serviced_setup_end» }
+csr0lSet csr0l.DataEnd w = record { «rx_pkt_rdy» = w .«rx_pkt_rdy»; «tx_pkt_rdy» = w .«tx_pkt_rdy»; «sent_stall» = w .«sent_stall»; «data_end» = true; «setup_end» = w .«setup_end»; «send_stall» = w .«send_stall»; «serviced_rx_pkt_rdy» = w .«serviced_rx_pkt_rdy»; «serviced_setup_end» = w .«serviced_setup_end» }
+csr0lSet csr0l.ServicedRxPktRdy w = record { «rx_pkt_rdy» = w .«rx_pkt_rdy»; «tx_pkt_rdy» = w .«tx_pkt_rdy»; «sent_stall» = w .«sent_stall»; «data_end» = w .«data_end»; «setup_end» = w .«setup_end»; «send_stall» = w .«send_stall»; «serviced_rx_pkt_rdy» = true; «serviced_setup_end» = w .«serviced_setup_end» }
+csr0lSet csr0l.ServicedSetupEnd w = record { «rx_pkt_rdy» = w .«rx_pkt_rdy»; «tx_pkt_rdy» = w .«tx_pkt_rdy»; «sent_stall» = w .«sent_stall»; «data_end» = w .«data_end»; «setup_end» = w .«setup_end»; «send_stall» = w .«send_stall»; «serviced_rx_pkt_rdy» = w .«serviced_rx_pkt_rdy»; «serviced_setup_end» = true }
+csr0lSet csr0l.ServicedBoth w = record { «rx_pkt_rdy» = w .«rx_pkt_rdy»; «tx_pkt_rdy» = w .«tx_pkt_rdy»; «sent_stall» = w .«sent_stall»; «data_end» = w .«data_end»; «setup_end» = w .«setup_end»; «send_stall» = w .«send_stall»; «serviced_rx_pkt_rdy» = true; «serviced_setup_end» = true }
 
 unfoldable pub txcsrlSet : TxcsrlSet → Txcsrl → Txcsrl
-txcsrlSet txcsrl.TxPktRdy w = txcsrlBits true (w .«fifo_not_empty») (w .«under_run») (w .«flush_fifo») (w .«send_stall») (w .«sent_stall») (w .«clr_data_tog»)
-txcsrlSet txcsrl.FlushFifo w = txcsrlBits (w .«tx_pkt_rdy») (w .«fifo_not_empty») (w .«under_run») true (w .«send_stall») (w .«sent_stall») (w .«clr_data_tog»)
-txcsrlSet txcsrl.NoUnderRun w = txcsrlBits (w .«tx_pkt_rdy») (w .«fifo_not_empty») false (w .«flush_fifo») (w .«send_stall») (w .«sent_stall») (w .«clr_data_tog»)
+txcsrlSet txcsrl.TxPktRdy w = record { «tx_pkt_rdy» = true; «fifo_not_empty» = w .«fifo_not_empty»; «under_run» = w .«under_run»; «flush_fifo» = w .«flush_fifo»; «send_stall» = w .«send_stall»; «sent_stall» = w .«sent_stall»; «clr_data_tog» = w .«clr_data_tog» }
+txcsrlSet txcsrl.FlushFifo w = record { «tx_pkt_rdy» = w .«tx_pkt_rdy»; «fifo_not_empty» = w .«fifo_not_empty»; «under_run» = w .«under_run»; «flush_fifo» = true; «send_stall» = w .«send_stall»; «sent_stall» = w .«sent_stall»; «clr_data_tog» = w .«clr_data_tog» }
+txcsrlSet txcsrl.NoUnderRun w = record { «tx_pkt_rdy» = w .«tx_pkt_rdy»; «fifo_not_empty» = w .«fifo_not_empty»; «under_run» = false; «flush_fifo» = w .«flush_fifo»; «send_stall» = w .«send_stall»; «sent_stall» = w .«sent_stall»; «clr_data_tog» = w .«clr_data_tog» }
 
 unfoldable pub rxcsrlSet : RxcsrlSet → Rxcsrl → Rxcsrl
-rxcsrlSet rxcsrl.NoRxPktRdy w = rxcsrlBits false (w .«fifo_full») (w .«over_run») (w .«data_error») (w .«flush_fifo») (w .«send_stall») (w .«sent_stall») (w .«clr_data_tog»)
-rxcsrlSet rxcsrl.FlushFifo w = rxcsrlBits (w .«rx_pkt_rdy») (w .«fifo_full») (w .«over_run») (w .«data_error») true (w .«send_stall») (w .«sent_stall») (w .«clr_data_tog»)
-rxcsrlSet rxcsrl.NoOverRun w = rxcsrlBits (w .«rx_pkt_rdy») (w .«fifo_full») false (w .«data_error») (w .«flush_fifo») (w .«send_stall») (w .«sent_stall») (w .«clr_data_tog»)
+rxcsrlSet rxcsrl.NoRxPktRdy w = record { «rx_pkt_rdy» = false; «fifo_full» = w .«fifo_full»; «over_run» = w .«over_run»; «data_error» = w .«data_error»; «flush_fifo» = w .«flush_fifo»; «send_stall» = w .«send_stall»; «sent_stall» = w .«sent_stall»; «clr_data_tog» = w .«clr_data_tog» }
+rxcsrlSet rxcsrl.FlushFifo w = record { «rx_pkt_rdy» = w .«rx_pkt_rdy»; «fifo_full» = w .«fifo_full»; «over_run» = w .«over_run»; «data_error» = w .«data_error»; «flush_fifo» = true; «send_stall» = w .«send_stall»; «sent_stall» = w .«sent_stall»; «clr_data_tog» = w .«clr_data_tog» }
+rxcsrlSet rxcsrl.NoOverRun w = record { «rx_pkt_rdy» = w .«rx_pkt_rdy»; «fifo_full» = w .«fifo_full»; «over_run» = false; «data_error» = w .«data_error»; «flush_fifo» = w .«flush_fifo»; «send_stall» = w .«send_stall»; «sent_stall» = w .«sent_stall»; «clr_data_tog» = w .«clr_data_tog» }

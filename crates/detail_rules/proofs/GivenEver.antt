@@ -1,22 +1,19 @@
 -- Every record's numbers are numbers that the record can be made of again. Assumes nothing.
-use Prim.Native.Nat.{ℕ, zero, suc, _+_, _*_, _/_, _%_, _^_, _≤_, _<_}
+use Prim.Native.Nat.{ℕ, suc, _+_, _<_}
 use native.Mathlib.Decide.{ℕ-discrete}
-use native.Mathlib.Nat.{not-suc-le-zero, pow-succ', div-div-eq-div-mul}
+use native.Mathlib.Nat.{not-suc-le-zero}
 use native.Mathlib.Omega.{arith}
-use mathlib.Core.Path.{_≡_, refl, ap, sym, subst, _∙_}
+use mathlib.Core.Path.{_≡_, refl, sym, subst, _∙_}
 use mathlib.Core.Logic.{inl, inr}
 use mathlib.Core.Bool.{Bool, true, false, cond}
-use mathlib.Core.List.{List, [], _∷_}
-use lib.Dec.{eqb, ltb}
+use lib.Dec.{ltb}
 use lib.ListN.{getD}
-use Rattle.laws.specs.Words.{bit}
-use Rattle.laws.proofs.Words.{bit-zero}
 use Rattle.board.specs.Table.{place}
 use Rattle.board.specs.declared.Direction.{Direction}
 use Rattle.board.specs.declared.Direction.the-variants.{Out, In}
 use Rattle.csr.specs.declared.Side.{Side}
 use Rattle.csr.specs.Registers.{noSide}
-use Rattle.csr.specs.Control.{fromBits, txcsrlOf, rxcsrlOf, csr0lNumber, txcsrlNumber, rxcsrlNumber}
+use Rattle.csr.specs.Control.{txcsrlOf, rxcsrlOf, csr0lNumber, txcsrlNumber, rxcsrlNumber}
 use Rattle.csr.proofs.AsWritten.{csr0l-places, txcsrl-places, rxcsrl-places}
 use Rattle.register_file.specs.Registers.{File, setupend, sideOf, sideIn, sideAt, index, faddr, power, intrusbe, enabledOf, intrusb, intrOf}
 use Rattle.register_file.specs.Control.{csr0lRead}
@@ -32,6 +29,8 @@ use Rattle.detail_rules.proofs.DetailCounted.{ninety-six}
 use Rattle.detail_rules.specs.Given.{longAt, baseOf}
 use Rattle.detail_rules.specs.GivenPrinted.{Csr0lReads, TxcsrlReads, RxcsrlReads, IsoReads, RegistersRead, RestReads, Printed, Held, Ever, Again}
 use Rattle.detail_rules.proofs.GivenBack.{back}
+use Rattle.csr.proofs.Bits.{bit-from}
+use Rattle.register_file.proofs.Words.{at-most}
 
 -- at every number below n
 module _ (P : ℕ → Type 0) where
@@ -44,28 +43,6 @@ module _ (P : ℕ → Type 0) where
       go : Dec (i ≡ n) → P i
       go (yes e) = subst P (sym e) p
       go (no e) = f i (omega arith)
-
--- the bits of a number that is made of bits
-half : (b : Bool) (n : ℕ) → (cond b 1 0 + 2 * n) / 2 ≡ n
-half true n = omega arith
-half false n = omega arith
-
-lowest : (b : Bool) (n : ℕ) → eqb ((cond b 1 0 + 2 * n) / 1 % 2) 1 ≡ b
-lowest true n = let e : (1 + 2 * n) / 1 % 2 ≡ 1 = omega arith in rw e
-lowest false n = let e : (0 + 2 * n) / 1 % 2 ≡ 0 = omega arith in rw e
-
-bit-from : (bs : List Bool) (i : ℕ) → bit (fromBits bs) i ≡ getD bs i false
-unfolding fromBits bit
-bit-from [] i = bit-zero i
-bit-from (b ∷ bs) zero = lowest b (fromBits bs)
-bit-from (b ∷ bs) (suc i) =
-    let n = fromBits bs in
-    let e = ap (λ (m : ℕ). (cond b 1 0 + 2 * n) / m) (pow-succ' 2 i) ∙ sym (div-div-eq-div-mul (cond b 1 0 + 2 * n) 2 (2 ^ i)) ∙ ap (λ (m : ℕ). m / 2 ^ i) (half b n) in
-    ap (λ (m : ℕ). eqb (m % 2) 1) e ∙ bit-from bs i
-
-at-most : (b : Bool) (n : ℕ) → cond b n 0 ≤ n
-at-most true n = omega arith
-at-most false n = omega arith
 
 -- what the registers read
 csr0l-reads : (w : File) → Csr0lReads (csr0lAt w)
@@ -80,14 +57,13 @@ csr0l-reads w =
         at-most (setupend w) 16,
         at-most (sideAt w 0 In .stall) 32,
       );
-      data-end = ap (λ (n : ℕ). bit n 3) (csr0l-places (csr0lRead w)) ∙ bit-from _ 3;
+      data-end = bit-from _ (csr0l-places (csr0lRead w)) 3;
     }
 
 tx-reads : (s : Side) → TxcsrlReads (txcsrlNumber (txcsrlOf s))
 unfolding txcsrlNumber txcsrlOf
 tx-reads s =
-    let at : (i : ℕ) → bit (txcsrlNumber (txcsrlOf s)) i ≡ getD (s .ready ∷ s .ready ∷ s .missed ∷ false ∷ s .stall ∷ s .stalled ∷ false ∷ []) i false =
-    λ i. ap (λ (n : ℕ). bit n i) (txcsrl-places (txcsrlOf s)) ∙ bit-from _ i in
+    let at = bit-from _ (txcsrl-places (txcsrlOf s)) in
     record {
       below = omega (arith, at-most (s .ready) 1, at-most (s .ready) 2, at-most (s .missed) 4, at-most (s .stall) 16, at-most (s .stalled) 32);
       not-empty = at 1 ∙ sym (at 0);
@@ -97,8 +73,7 @@ tx-reads s =
 rx-reads : (s : Side) → RxcsrlReads (rxcsrlNumber (rxcsrlOf s))
 unfolding rxcsrlNumber rxcsrlOf
 rx-reads s =
-    let at : (i : ℕ) → bit (rxcsrlNumber (rxcsrlOf s)) i ≡ getD (s .ready ∷ false ∷ s .missed ∷ false ∷ false ∷ s .stall ∷ s .stalled ∷ false ∷ []) i false =
-    λ i. ap (λ (n : ℕ). bit n i) (rxcsrl-places (rxcsrlOf s)) ∙ bit-from _ i in
+    let at = bit-from _ (rxcsrl-places (rxcsrlOf s)) in
     record {
       below = omega (arith, at-most (s .ready) 1, at-most (s .missed) 4, at-most (s .stall) 32, at-most (s .stalled) 64);
       full = at 1;

@@ -4,7 +4,7 @@ use Prim.Native.Nat.{ℕ, zero, suc, _+_, _≤_, _<_}
 use native.Mathlib.Decide.{ℕ-discrete}
 use native.Mathlib.Omega.{arith}
 use mathlib.Core.Path.{_≡_, refl, ap, _∙_}
-use mathlib.Core.Bool.{Bool, true, false, cond}
+use mathlib.Core.Bool.{cond}
 use mathlib.Core.List.{List}
 use lib.Dec.{eqb}
 use lib.ListN.{length, getD, length-set}
@@ -17,6 +17,7 @@ use Rattle.csr.proofs.Sides.{in-out}
 use Rattle.register_file.specs.Registers.{File, Whole, freshFile, sideAt, withSide, setupend, withSetupend, withFaddr, withPower, withIndex, withEnabled, withIntrusbe, withIntrusb, withIntr}
 use Rattle.register_file.proofs.Sides.{side-same, side-flip, side-other, keeps, keeps-length, set-keeps}
 use Rattle.detail_rules.specs.Given.{wordAt, withChip, zeroTx, zeroRx, withZero, baseOf, sideFrom, withSides, withOthers, fileOf}
+use Rattle.register_file.proofs.Words.{is-one}
 
 -- a side of an endpoint from 1 to 5
 abbrev sideOf : List ℕ → ℕ → Direction → Side
@@ -119,11 +120,7 @@ module _ (ns : List ℕ) where
   unfolding fileOf setupend
   file-ended =
       ap (λ (n : ℕ). eqb n 1) (others-keep 5 (withZero ns (withChip ns freshFile)) 9 (omega arith) ∙ zero-ended (withChip ns freshFile) chip-whole)
-      ∙ one (bit (wordAt ns 9) 4)
-    where
-      one : (b : Bool) → eqb (cond b 1 0) 1 ≡ b
-      one true = refl
-      one false = refl
+      ∙ is-one (bit (wordAt ns 9) 4)
 
   pub file-zero-tx : sideAt (fileOf ns) 0 In ≡ zeroTx ns
   unfolding fileOf

@@ -16,10 +16,11 @@ use Rattle.csr.specs.declared.Side.{Side}
 use Rattle.register_file.specs.Registers.{File, freshFile, withSide, withSetupend}
 use Rattle.endpoints.specs.declared.EndpointType.{EndpointType}
 use Rattle.endpoints.specs.declared.EndpointData.{EndpointData}
-use Rattle.endpoints.specs.declared.EndpointType.the-variants.{Control, Isochronous, Bulk, Interrupt}
 use Rattle.control_state.specs.declared.ControlStateEnum.{ControlStateEnum}
 use Rattle.control_state.specs.declared.ControlStateEnum.the-variants.{Idle, Setup, DataIn, DataOut, Accepted, NodataPhase}
-use Rattle.detail_rules.specs.Given.{numberAt, numbersOf, longAt, wordAt, truthAt, withChip, zeroTx, zeroRx, withZero, baseOf, sideFrom, withSides, withOthers, fileOf, typeOf, dataOf, datasOf, stateOf, controlOf, flagsOf, recordOf}
+use Rattle.detail_rules.specs.Given.{numberAt, numbersOf, longAt, wordAt, truthAt, withChip, zeroTx, zeroRx, withZero, baseOf, sideFrom, withSides, withOthers, fileOf, dataOf, datasOf, stateOf, controlOf, flagsOf, recordOf}
+use Rattle.endpoints.specs.Endpoints.{typeOf}
+use Rattle.register_file.proofs.Words.{made}
 
 -- past the end of the bytes
 pub byte-none : (h : List ℕ) (i : ℕ) → length h ≤ i → _≡_ {A = ℕ} 0 (getD h i 0)
@@ -47,20 +48,17 @@ unfolding numberAt
 long-is h i l ea eb ec ed = (λ t. ea .0 t + 256 * eb .0 t + 65536 * ec .0 t + 16777216 * ed .0 t) ∙ sym (number-in h i l)
 
 -- the sides
-abbrev side : Bool → Bool → Bool → Bool → Bool → ℕ → ℕ → Side
-side a b c d e m n = record { ready = a; missed = b; stall = c; stalled = d; iso = e; maxp = m; len = n }
-
 pub zero-tx-done : (ns : List ℕ) {v n : ℕ} {a b c : Bool} → v ≡ wordAt ns 9 → a ≡ bit v 1 → b ≡ bit v 5 → c ≡ bit v 2 → n ≡ wordAt ns 16
-    → side a false b c false 0 n ≡ zeroTx ns
+    → made a false b c false 0 n ≡ zeroTx ns
 unfolding zeroTx
 zero-tx-done ns ev ea eb ec en =
     let at : (i : ℕ) → bit _ i ≡ bit (wordAt ns 9) i = λ i. ap (λ (v : ℕ). bit v i) ev in
-    λ t. side ((ea ∙ at 1) t) false ((eb ∙ at 5) t) ((ec ∙ at 2) t) false 0 (en t)
+    λ t. made ((ea ∙ at 1) t) false ((eb ∙ at 5) t) ((ec ∙ at 2) t) false 0 (en t)
 
 pub zero-rx-done : (ns : List ℕ) {v n : ℕ} {a : Bool} → v ≡ wordAt ns 9 → a ≡ bit v 0 → n ≡ wordAt ns 17
-    → side a false false false false 0 n ≡ zeroRx ns
+    → made a false false false false 0 n ≡ zeroRx ns
 unfolding zeroRx
-zero-rx-done ns ev ea en = λ t. side ((ea ∙ ap (λ (v : ℕ). bit v 0) ev) t) false false false false 0 (en t)
+zero-rx-done ns ev ea en = λ t. made ((ea ∙ ap (λ (v : ℕ). bit v 0) ev) t) false false false false 0 (en t)
 
 pub zero-done : (ns : List ℕ) (w : File) {v u t : File} {m n : ℕ} {x y : Side} {b : Bool} → m ≡ wordAt ns 9 → x ≡ zeroTx ns → v ≡ withSide w 0 In x
     → y ≡ zeroRx ns → u ≡ withSide v 0 Out y → b ≡ bit m 4 → (n ≡ cond b 1 0) × (n ≤ 1) → t ≡ set u 9 n → t ≡ withZero ns w
@@ -69,11 +67,11 @@ zero-done ns w em ex ev ey eu eb en et = let e = en .0 in cc
 
 pub side-done : (ns : List ℕ) (i s : ℕ) {v x m n : ℕ} {a b c d e : Bool} → v ≡ wordAt ns i → a ≡ bit v 0 → b ≡ bit v 2 → c ≡ bit v s
     → d ≡ bit v (s + 1) → x ≡ wordAt ns (i + 2) → e ≡ bit x 6 → m ≡ wordAt ns (i + 4) → n ≡ wordAt ns (i + 6)
-    → side a b c d e m n ≡ sideFrom ns i s
+    → made a b c d e m n ≡ sideFrom ns i s
 unfolding sideFrom
 side-done ns i s ev ea eb ec ed ex ee em en =
     let at : (j : ℕ) → bit _ j ≡ bit (wordAt ns i) j = λ j. ap (λ (v : ℕ). bit v j) ev in
-    λ t. side ((ea ∙ at 0) t) ((eb ∙ at 2) t) ((ec ∙ at s) t) ((ed ∙ at (s + 1)) t) ((ee ∙ ap (λ (v : ℕ). bit v 6) ex) t) (em t) (en t)
+    λ t. made ((ea ∙ at 0) t) ((eb ∙ at 2) t) ((ec ∙ at s) t) ((ed ∙ at (s + 1)) t) ((ee ∙ ap (λ (v : ℕ). bit v 6) ex) t) (em t) (en t)
 
 pub sides-done : (ns : List ℕ) (e : ℕ) (w : File) {v u : File} {b : ℕ} {x y : Side} → (b ≡ baseOf e) × (b ≤ 75) → x ≡ sideFrom ns b 4
     → v ≡ withSide w e In x → y ≡ sideFrom ns (b + 1) 5 → u ≡ withSide v e Out y → u ≡ withSides ns e w
@@ -122,18 +120,6 @@ record-done ns ew el em es en ea eb ec ed ex ey =
     }
 
 module _ (n : ℕ) where
-  pub is-control : n ≡ 0 → Control ≡ typeOf n
-  is-control e = rw e
-
-  pub is-isochronous : n ≡ 1 → Isochronous ≡ typeOf n
-  is-isochronous e = rw e
-
-  pub is-bulk : n ≡ 2 → Bulk ≡ typeOf n
-  is-bulk e = rw e
-
-  pub is-interrupt : (n ≡ 0 → ⊥) → (n ≡ 1 → ⊥) → (n ≡ 2 → ⊥) → Interrupt ≡ typeOf n
-  is-interrupt z o t = rw (ne-eqb n 0 z, ne-eqb n 1 o, ne-eqb n 2 t)
-
   pub is-idle : n ≡ 0 → Idle ≡ stateOf n
   is-idle e = rw e
 

@@ -14,10 +14,10 @@ use Rattle.csr.specs.Control.{txcsrlOf, rxcsrlOf, csr0lNumber, txcsrlNumber, rx
 use Rattle.board.specs.declared.Direction.the-variants.{Out, In}
 use Rattle.register_file.specs.Registers.{File, setupend, sideAt}
 use Rattle.register_file.specs.Control.{csr0lRead}
-use Rattle.endpoints.specs.Endpoints.{typeNumber}
+use Rattle.endpoints.specs.Endpoints.{typeNumber, typeOf}
 use Rattle.control_state.specs.Numbers.{stateNumber}
 use Rattle.detail_rules.specs.DetailNumbers.{csr0lAt}
-use Rattle.detail_rules.specs.Given.{longAt, wordAt, truthAt, zeroTx, zeroRx, sideFrom, typeOf, stateOf}
+use Rattle.detail_rules.specs.Given.{longAt, wordAt, truthAt, zeroTx, zeroRx, sideFrom, stateOf}
 use Rattle.detail_rules.specs.GivenPrinted.{Csr0lReads, TxcsrlReads, RxcsrlReads, IsoReads}
 
 -- a number below 64, and below 128, by its bits

@@ -11,14 +11,13 @@ use Rattle.board.specs.declared.Board.the-variants.{Display}
 use Rattle.board.specs.declared.Direction.the-variants.{Out, In}
 use Rattle.csr.specs.declared.Side.{Side}
 use Rattle.register_file.specs.Registers.{File, freshFile, withFaddr, withPower, withIndex, withEnabled, withIntrusbe, withIntrusb, withIntr, withSetupend, withSide}
-use Rattle.endpoints.specs.declared.EndpointType.{EndpointType}
-use Rattle.endpoints.specs.declared.EndpointType.the-variants.{Control, Isochronous, Bulk, Interrupt}
 use Rattle.endpoints.specs.declared.EndpointData.{EndpointData}
 use Rattle.control_state.specs.declared.ControlStateEnum.{ControlStateEnum}
 use Rattle.control_state.specs.declared.ControlStateEnum.the-variants.{Idle, Setup, DataIn, DataOut, Accepted, NodataPhase}
 use Rattle.control_state.specs.declared.ControlState.{ControlState}
 use Rattle.record.specs.declared.Flags.{Flags}
 use Rattle.record.specs.declared.Record.{Record}
+use Rattle.endpoints.specs.Endpoints.{typeOf}
 
 -- a number stands in four bytes, low byte first; past the end of the bytes stand zeros
 unfoldable pub numberAt : List ℕ → ℕ → ℕ
@@ -92,10 +91,6 @@ withOthers ns (suc n) w = withSides ns (suc n) (withOthers ns n w)
 
 unfoldable pub fileOf : List ℕ → File
 fileOf ns = withOthers ns 5 (withZero ns (withChip ns freshFile))
-
--- "type 0 control 1 isochronous 2 bulk 3 interrupt"
-abbrev pub typeOf : ℕ → EndpointType
-typeOf n = cond (eqb n 0) Control (cond (eqb n 1) Isochronous (cond (eqb n 2) Bulk Interrupt))
 
 unfoldable pub dataOf : List ℕ → ℕ → EndpointData
 dataOf ns e =

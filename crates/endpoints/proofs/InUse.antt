@@ -2,10 +2,10 @@
 -- Assumes nothing.
 use Prim.Native.Nat.{_<_}
 use mathlib.Core.Path.{_≡_, refl, sym, ap, _∙_}
-use mathlib.Core.Bool.{Bool, true, false, not, _&&_, _||_}
+use mathlib.Core.Bool.{Bool, true, false, not, _&&_, _||_, or-true}
 use mathlib.Core.Logic.{_↔_}
 use borrow.Author.Tests.{ltb-true, lt-ltb}
-use Rattle.laws.proofs.Tests.{clash, or-one}
+use Rattle.laws.proofs.Tests.{clash}
 use Rattle.board.specs.declared.Row.{Row}
 use Rattle.board.specs.declared.Direction.{Direction}
 use Rattle.board.specs.declared.Direction.the-variants.{Out, In}
@@ -63,7 +63,7 @@ used-by e h = go (e .«used_rx») refl
 
 in-use : (e : EndpointData) (c : Direction) → Marked e c → used e ≡ true
 in-use e Out p = rw p
-in-use e In p = rw p (or-one (e .«used_rx»))
+in-use e In p = rw p (or-true (e .«used_rx»))
 
 module _ (e : EndpointData) (k : EndpointType) (d : Direction) where
   pub in-use-is : inUse e k d ≡ true → InUse e k d
@@ -87,8 +87,8 @@ module _ (e : EndpointData) (k : EndpointType) (d : Direction) where
     where
       go : (b : Bool) → sameType (kindOf e) k ≡ b → ((sameType k Bulk && used e) || (used e && (not (sameType (kindOf e) k) || usedIn e d))) ≡ true
       go true q = absurd (n (same-type (kindOf e) k q))
-      go false q = rw (in-use e c m, q) (or-one (sameType k Bulk && true))
-  is-in-use (same m) = rw (in-use e d m, unmark e d m, or-one (not (sameType (kindOf e) k))) (or-one (sameType k Bulk && true))
+      go false q = rw (in-use e c m, q) (or-true (sameType k Bulk && true))
+  is-in-use (same m) = rw (in-use e d m, unmark e d m, or-true (not (sameType (kindOf e) k))) (or-true (sameType k Bulk && true))
 
 -- reply 5, "size over the table's"
 pub over-size : (r : Row) (q : Ask) → overSize r q ≡ true ↔ r .size < q .size

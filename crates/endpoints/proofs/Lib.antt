@@ -5,3 +5,4 @@ pub mod InUse
 pub mod Answers
 pub mod Changes
 pub mod Allocate
+pub mod Types

@@ -2,7 +2,7 @@
 -- Assumes nothing.
 use Prim.Native.Nat.{ℕ}
 use mathlib.Core.Path.{_≡_}
-use mathlib.Core.Bool.{Bool, true, false, _||_}
+use mathlib.Core.Bool.{Bool, true, false, _||_, cond}
 use lib.Dec.{eqb}
 use Rattle.board.specs.declared.Direction.{Direction}
 use Rattle.board.specs.declared.Direction.the-variants.{Out, In}
@@ -25,6 +25,9 @@ typeNumber Control = 0
 typeNumber Isochronous = 1
 typeNumber Bulk = 2
 typeNumber Interrupt = 3
+
+abbrev pub typeOf : ℕ → EndpointType
+typeOf n = cond (eqb n 0) Control (cond (eqb n 1) Isochronous (cond (eqb n 2) Bulk Interrupt))
 
 abbrev pub sameType : EndpointType → EndpointType → Bool
 sameType a b = eqb (typeNumber a) (typeNumber b)

@@ -11,7 +11,7 @@ use Rattle.register_file.specs.Registers.{File, Whole, sideAt}
 use Rattle.csr.specs.Registers.{towards}
 use Rattle.csr.specs.Control.{dropped}
 use Rattle.event_rules.specs.Events.{lapsed}
-use Rattle.event_rules.specs.Promise.{Event, arrival, collection, reset, suspend, resume, setupend, miss, happens, leaves, at}
+use Rattle.event_rules.specs.Promise.{Event, arrival, collection, onBus, setupend, miss, happens, leaves, at}
 use Rattle.event_rules.proofs.Promises.{sides}
 
 either : (b : Bool) (x y : Side) → x .stall ≡ y .stall → cond b x y .stall ≡ y .stall
@@ -32,9 +32,7 @@ leaves-stall : (o : Event) (e : ℕ) (d : Direction) (s : Side) → (e ≡ 0 →
 leaves-stall (arrival f n) e Out s m = either (eqb e f) _ s refl
 leaves-stall (arrival f n) e In s m = rw (ne-eqb e 0 m) (either (eqb f 0) s s refl)
 leaves-stall (collection f) e d s m = either (eqb e f) _ s (towards-stall In d (dropped true) s (dropped-stall s))
-leaves-stall reset e d s m = refl
-leaves-stall suspend e d s m = refl
-leaves-stall resume e d s m = refl
+leaves-stall (onBus o) e d s m = refl
 leaves-stall setupend e d s m = refl
 leaves-stall (miss f c) e d s m = either (eqb e f) _ s (towards-stall c d lapsed s refl)
 

@@ -16,10 +16,9 @@ use Rattle.register_file.specs.Sound.{Clean}
 use Rattle.csr.specs.Control.{dropped}
 use Rattle.register_file.proofs.Sides.{keeps-setupend, keeps-length}
 use Rattle.register_file.proofs.Soundness.{clean-side, clean-set, clean-setupend}
-use Rattle.event_rules.specs.Events.{busBit, interrupting, received, unstalled, waitingAt, arrived, collected, busRaised, busReset, busSuspend, busResume, setupEnded, missing, lapsed, intrusbCleared, intrCleared}
+use Rattle.event_rules.specs.Events.{busBit, interrupting, received, unstalled, waitingAt, arrived, collected, busRaised, setupEnded, missing, lapsed, intrusbCleared, intrCleared}
 use Rattle.event_rules.specs.declared.BusEvent.{BusEvent}
-use Rattle.event_rules.specs.declared.BusEvent.the-variants.{Suspend, Resume, Reset}
-use Rattle.event_rules.specs.Promise.{Event, arrival, collection, reset, suspend, resume, setupend, miss, happens, leaves, ends, Others, Clears, at}
+use Rattle.event_rules.specs.Promise.{Event, arrival, collection, onBus, setupend, miss, happens, leaves, ends, Others, Clears, at}
 use Rattle.event_rules.proofs.Promises.{sides, number, arrival-keeps, collection-keeps, interrupt-keeps}
 
 one : (x y : ℕ) → x ≡ y → eqb x 1 ≡ eqb y 1
@@ -32,12 +31,10 @@ setup-raised r six =
     one _ _ (interrupt-keeps (withSetupend r true) In 0 9 (λ e. omega arith) (λ e. omega arith) ∙ getD-set-same r 9 1 0 (omega arith))
 
 ended : (o : Event) (r : File) → Whole r → file.setupend (happens o r) ≡ ends o (file.setupend r)
-unfolding file.setupend busReset busSuspend busResume busRaised withIntrusb missing
+unfolding file.setupend busRaised withIntrusb missing
 ended (arrival f n) r six = one _ _ (arrival-keeps r f n 9 (omega arith) (λ e. omega arith) (λ e. omega arith))
 ended (collection f) r six = one _ _ (collection-keeps r f 9 (omega arith) (λ e. omega arith) (λ e. omega arith))
-ended reset r six = one _ _ (getD-set-other r 6 9 _ 0 (λ e. omega arith))
-ended suspend r six = one _ _ (getD-set-other r 6 9 _ 0 (λ e. omega arith))
-ended resume r six = one _ _ (getD-set-other r 6 9 _ 0 (λ e. omega arith))
+ended (onBus o) r six = one _ _ (getD-set-other r 6 9 _ 0 (λ e. omega arith))
 ended setupend r six = setup-raised r six
 ended (miss f c) r six = keeps-setupend r f c (lapsed (sideAt r f c))
 
@@ -88,9 +85,7 @@ either false x y f p = p
 received-stays : (o : Event) (e : ℕ) (s : Side) → s .ready ≡ true → leaves o e Out s .ready ≡ true
 received-stays (arrival f n) e s p = either (eqb e f) _ s (λ _. refl) p
 received-stays (collection f) e s p = either (eqb e f) s s (λ q. q) p
-received-stays reset e s p = p
-received-stays suspend e s p = p
-received-stays resume e s p = p
+received-stays (onBus o) e s p = p
 received-stays setupend e s p = p
 received-stays (miss f Out) e s p = either (eqb e f) _ s (λ q. q) p
 received-stays (miss f In) e s p = either (eqb e f) s s (λ q. q) p
@@ -124,12 +119,10 @@ arrival-clean r e n six k = go (eqb e 0)
     go false = interrupt-clean (waitingAt r e n) Out e (waiting-clean r e n six k)
 
 pub clean : (o : Event) (r : File) → Whole r → Clean r → Clean (happens o r)
-unfolding collected busReset busSuspend busResume setupEnded missing
+unfolding collected setupEnded missing
 clean (arrival f n) r six k = arrival-clean r f n six k
 clean (collection f) r six k = interrupt-clean _ In f (clean-side r f In (dropped true (sideAt r f In)) six k)
-clean reset r six k = bus-clean Reset r k
-clean suspend r six k = bus-clean Suspend r k
-clean resume r six k = bus-clean Resume r k
+clean (onBus o) r six k = bus-clean o r k
 clean setupend r six k = interrupt-clean (withSetupend r true) In 0 (clean-setupend r true six k)
 clean (miss f c) r six k = clean-side r f c (lapsed (sideAt r f c)) six k
 

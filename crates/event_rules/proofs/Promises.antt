@@ -18,8 +18,9 @@ use Rattle.csr.proofs.Sides.{out-in}
 use Rattle.register_file.proofs.Sides.{side-seen, side-same, side-other, side-flip, set-keeps, keeps, keeps-length, keeps-intr}
 use Rattle.event_rules.specs.declared.BusEvent.{BusEvent}
 use Rattle.event_rules.specs.declared.BusEvent.the-variants.{Suspend, Resume, Reset}
-use Rattle.event_rules.specs.Events.{interrupting, waitingAt, arrived, collected, busBit, busRaised, busReset, busSuspend, busResume, setupEnded, missing, received, unstalled, lapsed, intrusbCleared, intrCleared}
-use Rattle.event_rules.specs.Promise.{Event, arrival, collection, reset, suspend, resume, setupend, miss, happens, leaves, raisesBus, raises, Kept, at}
+use Rattle.event_rules.specs.Events.{interrupting, waitingAt, arrived, collected, busBit, busRaised, setupEnded, missing, received, unstalled, lapsed, intrusbCleared, intrCleared}
+use Rattle.event_rules.specs.Promise.{Event, arrival, collection, onBus, setupend, miss, happens, leaves, raisesBus, raises, Kept, at}
+use Rattle.register_file.proofs.AsWritten.{setupend-keeps}
 
 -- an interrupt that is raised touches no side, no number but its own, and not how many there are
 quiet : (r : File) (c : Direction) (i e : ℕ) (d : Direction) → sideAt (interrupting r c i) e d ≡ sideAt r e d
@@ -132,10 +133,6 @@ bus-intr o r Out = bus-keeps o r 8 (λ e. omega arith)
 bus-intr o r In = bus-keeps o r 7 (λ e. omega arith)
 
 -- SetupEnd raised touches its own number alone
-end-seen : (r : File) (b : Bool) (e : ℕ) (d : Direction) → sideAt (withSetupend r b) e d ≡ sideAt r e d
-unfolding withSetupend
-end-seen r b e d = set-keeps r 9 (cond b 1 0) e d (omega arith)
-
 end-keeps : (r : File) (b : Bool) (q : ℕ) → q < 9 → getD (withSetupend r b) q 0 ≡ getD r q 0
 unfolding withSetupend
 end-keeps r b q h = getD-set-other r 9 q (cond b 1 0) 0 (λ e. omega arith)
@@ -151,13 +148,11 @@ end-intr r b In = end-keeps r b 7 (omega arith)
 
 -- every event leaves every side as the account says
 pub sides : (o : Event) (r : File) (e : ℕ) (d : Direction) → Whole r → at o < 6 → sideAt (happens o r) e d ≡ leaves o e d (sideAt r e d)
-unfolding collected busReset busSuspend busResume setupEnded missing
+unfolding collected setupEnded missing
 sides (arrival f n) r e d six h = arrival-seen r f n e d six h
 sides (collection f) r e d six h = quiet _ In f e d ∙ side-seen r f In (dropped true) e d six h
-sides reset r e d six h = bus-seen Reset r e d
-sides suspend r e d six h = bus-seen Suspend r e d
-sides resume r e d six h = bus-seen Resume r e d
-sides setupend r e d six h = quiet _ In 0 e d ∙ end-seen r true e d
+sides (onBus o) r e d six h = bus-seen o r e d
+sides setupend r e d six h = quiet _ In 0 e d ∙ setupend-keeps r true e d
 sides (miss f c) r e d six h = side-seen r f c lapsed e d six h
 
 -- an arrival and a collection leave every number before the sides' but the interrupt registers of the two directions
@@ -176,23 +171,21 @@ collection-keeps r f q h k m =
 
 -- every event keeps the numbers before the interrupt registers
 pub number : (o : Event) (r : File) (q : ℕ) → q < 6 → getD (happens o r) q 0 ≡ getD r q 0
-unfolding busReset busSuspend busResume setupEnded missing
+unfolding setupEnded missing
 number (arrival f n) r q h = arrival-keeps r f n q (omega arith) (λ e. omega arith) (λ e. omega arith)
 number (collection f) r q h = collection-keeps r f q (omega arith) (λ e. omega arith) (λ e. omega arith)
-number reset r q h = bus-keeps Reset r q (λ e. omega arith)
-number suspend r q h = bus-keeps Suspend r q (λ e. omega arith)
-number resume r q h = bus-keeps Resume r q (λ e. omega arith)
+number (onBus o) r q h = bus-keeps o r q (λ e. omega arith)
 number setupend r q h = interrupt-keeps (withSetupend r true) In 0 q (λ e. omega arith) (λ e. omega arith) ∙ end-keeps r true q (omega arith)
 number (miss f c) r q h = keeps r f c (lapsed (sideAt r f c)) q (omega arith)
 
 -- every event raises what the account says: of the bus
 pub bus : (o : Event) (r : File) → Whole r → intrusb (happens o r) ≡ raisesBus o (intrusb r)
-unfolding busReset busSuspend busResume setupEnded missing intrusb
+unfolding setupEnded missing intrusb
 bus (arrival f n) r six = arrival-keeps r f n 6 (omega arith) (λ e. omega arith) (λ e. omega arith)
 bus (collection f) r six = collection-keeps r f 6 (omega arith) (λ e. omega arith) (λ e. omega arith)
-bus reset r six = bus-here Reset r six
-bus suspend r six = bus-here Suspend r six
-bus resume r six = bus-here Resume r six
+bus (onBus Reset) r six = bus-here Reset r six
+bus (onBus Suspend) r six = bus-here Suspend r six
+bus (onBus Resume) r six = bus-here Resume r six
 bus setupend r six = interrupt-keeps (withSetupend r true) In 0 6 (λ e. omega arith) (λ e. omega arith) ∙ end-keeps r true 6 (omega arith)
 bus (miss f c) r six = keeps r f c (lapsed (sideAt r f c)) 6 (omega arith)
 
@@ -211,15 +204,13 @@ arrival-raises r f n In six = go (eqb f 0)
     go false = interrupt-out (waitingAt r f n) f ∙ wait-intr r f n In
 
 pub pending : (o : Event) (r : File) (d : Direction) → Whole r → intrOf (happens o r) d ≡ raises o d (intrOf r d)
-unfolding collected busReset busSuspend busResume setupEnded missing
+unfolding collected setupEnded missing
 pending (arrival f n) r d six = arrival-raises r f n d six
 pending (collection f) r Out six = interrupt-in _ f ∙ keeps-intr r f In _ Out
 pending (collection f) r In six =
     interrupt-here (withSide r f In (dropped true (sideAt r f In))) In f (keeps-length r f In _ ∙ six)
     ∙ ap (λ (p : ℕ). raised p f) (keeps-intr r f In (dropped true (sideAt r f In)) In)
-pending reset r d six = bus-intr Reset r d
-pending suspend r d six = bus-intr Suspend r d
-pending resume r d six = bus-intr Resume r d
+pending (onBus o) r d six = bus-intr o r d
 pending setupend r Out six = interrupt-in _ 0 ∙ end-intr r true Out
 pending setupend r In six = interrupt-here (withSetupend r true) In 0 (end-length r true ∙ six) ∙ ap (λ (p : ℕ). raised p 0) (end-intr r true In)
 pending (miss f c) r d six = keeps-intr r f c (lapsed (sideAt r f c)) d
@@ -234,12 +225,10 @@ arrival-length r f n = go (eqb f 0)
     go false = interrupt-length (waitingAt r f n) Out f ∙ wait-length r f n
 
 pub whole : (o : Event) (r : File) → length (happens o r) ≡ length r
-unfolding collected busReset busSuspend busResume setupEnded missing
+unfolding collected setupEnded missing
 whole (arrival f n) r = arrival-length r f n
 whole (collection f) r = interrupt-length _ In f ∙ keeps-length r f In (dropped true (sideAt r f In))
-whole reset r = bus-length Reset r
-whole suspend r = bus-length Suspend r
-whole resume r = bus-length Resume r
+whole (onBus o) r = bus-length o r
 whole setupend r = interrupt-length _ In 0 ∙ end-length r true
 whole (miss f c) r = keeps-length r f c (lapsed (sideAt r f c))
 

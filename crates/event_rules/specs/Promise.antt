@@ -13,23 +13,21 @@ use Rattle.register_file.specs.Registers as file
 use Rattle.register_file.specs.Registers.{File}
 use Rattle.csr.specs.Registers.{towards}
 use Rattle.csr.specs.Control.{dropped}
-use Rattle.event_rules.specs.Events.{arrived, collected, busReset, busSuspend, busResume, setupEnded, missing, received, unstalled, lapsed}
+use Rattle.event_rules.specs.declared.BusEvent.{BusEvent}
+use Rattle.event_rules.specs.declared.BusEvent.the-variants.{Suspend, Resume, Reset}
+use Rattle.event_rules.specs.Events.{arrived, collected, busRaised, setupEnded, missing, received, unstalled, lapsed}
 
 pub data Event : Type 0 where
   arrival : ℕ → ℕ → Event
   collection : ℕ → Event
-  reset : Event
-  suspend : Event
-  resume : Event
+  onBus : BusEvent → Event
   setupend : Event
   miss : ℕ → Direction → Event
 
 abbrev pub happens : Event → File → File
 happens (arrival e n) r = arrived r e n
 happens (collection e) r = collected r e
-happens reset r = busReset r
-happens suspend r = busSuspend r
-happens resume r = busResume r
+happens (onBus o) r = busRaised o r
 happens setupend r = setupEnded r
 happens (miss e d) r = missing r e d
 
@@ -38,9 +36,7 @@ abbrev pub leaves : Event → ℕ → Direction → Side → Side
 leaves (arrival f n) e Out s = cond (eqb e f) (received n s) s
 leaves (arrival f n) e In s = cond (eqb f 0) (cond (eqb e 0) (unstalled s) s) s
 leaves (collection f) e d s = cond (eqb e f) (towards In d (dropped true) s) s
-leaves reset e d s = s
-leaves suspend e d s = s
-leaves resume e d s = s
+leaves (onBus o) e d s = s
 leaves setupend e d s = s
 leaves (miss f c) e d s = cond (eqb e f) (towards c d lapsed s) s
 
@@ -49,9 +45,9 @@ leaves (miss f c) e d s = cond (eqb e f) (towards c d lapsed s) s
 abbrev pub raisesBus : Event → ℕ → ℕ
 raisesBus (arrival f n) p = p
 raisesBus (collection f) p = p
-raisesBus reset p = raised p 2
-raisesBus suspend p = raised p 0
-raisesBus resume p = raised p 1
+raisesBus (onBus Reset) p = raised p 2
+raisesBus (onBus Suspend) p = raised p 0
+raisesBus (onBus Resume) p = raised p 1
 raisesBus setupend p = p
 raisesBus (miss f c) p = p
 
@@ -60,9 +56,7 @@ raises (arrival f n) Out p = cond (eqb f 0) p (raised p f)
 raises (arrival f n) In p = cond (eqb f 0) (raised p 0) p
 raises (collection f) Out p = p
 raises (collection f) In p = raised p f
-raises reset d p = p
-raises suspend d p = p
-raises resume d p = p
+raises (onBus o) d p = p
 raises setupend Out p = p
 raises setupend In p = raised p 0
 raises (miss f c) d p = p
@@ -77,9 +71,7 @@ pub record Kept (r q : File) : Type 0 where
 abbrev pub ends : Event → Bool → Bool
 ends (arrival e n) b = b
 ends (collection e) b = b
-ends reset b = b
-ends suspend b = b
-ends resume b = b
+ends (onBus o) b = b
 ends setupend b = true
 ends (miss e d) b = b
 
@@ -99,8 +91,6 @@ pub record Clears (i : ℕ) (r q : File) : Type 0 where
 abbrev pub at : Event → ℕ
 at (arrival e n) = e
 at (collection e) = e
-at reset = 0
-at suspend = 0
-at resume = 0
+at (onBus o) = 0
 at setupend = 0
 at (miss e d) = e

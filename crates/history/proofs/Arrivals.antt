@@ -22,27 +22,21 @@ use Rattle.record.specs.declared.Admission.{Admission}
 use Rattle.record.specs.declared.Admission.the-variants.{Clear, Refused}
 use Rattle.record.specs.Record.{recordSound, admissionBy, endpointsOf, areaOf, needOf}
 use Rattle.host_rules.specs.Host.{Arrival, done, unlessArrived, entryAt, arrivalBy, arrivalRefusalIn, arrivalRefusal, arrivalCall}
-use Rattle.host_rules.proofs.Host.{never, admitted}
+use Rattle.host_rules.proofs.Host.{admitted, arrival-passed}
 use Rattle.rounds.specs.Machine.{arrivesAt}
 use Rattle.rounds.specs.Laws.{Does}
 use Rattle.rounds.proofs.Lawful.{unchanged}
 use Rattle.history.specs.Driver.{arrivalEvent, waiting}
 use Rattle.history.proofs.Look.{look, low}
 
--- the tests that an answered arrival has passed
-passed : (t : Admission) (long waits : Bool) → arrivalBy t long waits ≡ Clear → (t ≡ Clear) × (waits ≡ false)
-passed (Refused x) long waits p = never p
-passed Clear true waits p = never p
-passed Clear false true p = never p
-passed Clear false false p = (refl, refl)
-
 module _ (k : Record) (e n m : ℕ) (clear : arrivalRefusal k e n m ≡ Clear) where
-  tests : (entryAt k e m ≡ Clear) × (waiting k e ≡ false)
+  -- the tests that an answered arrival has passed
+  tests : (entryAt k e m ≡ Clear) × (ltb (areaOf k e Out .size) n ≡ false) × (waiting k e ≡ false)
   unfolding arrivalRefusal arrivalRefusalIn needOf recordSound endpointsOf areaOf
-  tests = passed (entryAt k e m) (ltb (areaOf k e Out .size) n) (sideAt (k .regs .words) e Out .ready) clear
+  tests = arrival-passed (entryAt k e m) (ltb (areaOf k e Out .size) n) (sideAt (k .regs .words) e Out .ready) clear
 
   pub none-waited : waiting k e ≡ false
-  none-waited = tests .1
+  none-waited = tests .2
 
   pub there : e < 6
   there = admitted k e m (tests .0) .below

@@ -1,14 +1,13 @@
 -- Flags that differ at endpoint 0 alone. Every call but on_interrupt and poll leaves such flags, and so do poll's steps before its walk.
 -- Assumes nothing.
 use mathlib.Core.Path.{_≡_, refl, ap, _∙_}
-use mathlib.Core.Bool.{Bool, true, false, not, cond, _||_, _&&_}
+use mathlib.Core.Bool.{Bool, true, false, not, cond, _||_, _&&_, and-true}
 use Prim.Native.Nat.{ℕ, _≤_, _<_}
 use native.Mathlib.Omega.{arith}
 use lib.Dec.{eqb, lit<}
 use borrow.Author.Tests.{ne-eqb}
 use Rattle.laws.specs.Words.{bit, raised, clear}
 use Rattle.laws.proofs.Words.{bit-raised, bit-clear, raised-lt6, clear-lt}
-use Rattle.laws.proofs.Tests.{and-one}
 use Rattle.register_file.specs.Control.{csr0lRead, count0}
 use Rattle.store_rules.specs.Stores.{Log, writeIndex}
 use Rattle.control_state.specs.declared.ControlState.{ControlState}
@@ -35,7 +34,7 @@ raised-other w j h low = bit-raised w 0 j (lit< tt) low ∙ ap (λ (b : Bool). b
 
 cleared-other : (w j : ℕ) → w < 64 → 1 ≤ j → j < 6 → bit (clear w 0) j ≡ bit w j
 cleared-other w j small h low =
-    bit-clear w 0 j small (lit< tt) low ∙ ap (λ (b : Bool). bit w j && not b) (not-zero j h) ∙ and-one (bit w j)
+    bit-clear w 0 j small (lit< tt) low ∙ ap (λ (b : Bool). bit w j && not b) (not-zero j h) ∙ and-true (bit w j)
 
 module _ (f : Flags) (small : f .«ep_rx» < 64) where
   pub same : Alike f f

@@ -7,7 +7,7 @@ use Rattle.register_file.specs.Registers.{freshFile, freshRegs, index, withInde
 use Rattle.register_file.specs.Control.{csr0lRead}
 use Rattle.csr.specs.Control.{txcsrlOf, rxcsrlOf, txStored, rxStored, txcsrlSet, rxcsrlSet, dropped}
 use Rattle.store_list.specs.Stores.{listed}
-use Rattle.store_rules.specs.Stores.{noted, withOwn, writeIndex, writeTxcsrl, writeRxcsrl, modifyTxcsrl, modifyRxcsrl, writePacket}
+use Rattle.store_rules.specs.Stores.{listing, withOwn, writeIndex, writeTxcsrl, writeRxcsrl, modifyTxcsrl, modifyRxcsrl, writePacket}
 use Rattle.event_rules.specs.Events.{interrupting, waitingAt, arrived, collected, busRaised, busReset, busResume, intrusbCleared, intrCleared}
 use Rattle.common_rules.specs.Overrun.{underRunCleared, overRunCleared, repaired, repairedBelow}
 use Rattle.laws.specs.Lists.{numbers}
@@ -76,7 +76,7 @@ record Computed : Type 0 where
   second : isRound (says (woken ++ poll ∷ [])) ≡ false
 
 computed : Computed
-unfolding bit raised clear bitsBelow setBits freshFile freshRegs index withIndex intrusb withIntrusb intrOf withIntr sideWord sideOf sideIn withSideIn sideAt withSide csr0lRead txcsrlOf rxcsrlOf txStored rxStored txcsrlSet rxcsrlSet dropped listed noted withOwn writeIndex writeTxcsrl writeRxcsrl modifyTxcsrl modifyRxcsrl writePacket interrupting waitingAt arrived collected busRaised busReset busResume intrusbCleared intrCleared underRunCleared overRunCleared repaired numbers repairedBelow freshRecord txPktRdy rxPktRdy rxCount write.ownTestsAt write.notWritable write-write.writeDone write-write.loaded write-write.sent write-write.sentOther read.ownTestsAt read.notReadable read.notSetup read-read.readDone read-read.got read-read.readOther collectedFrom snapshotOf cleared busTaken raisedIf endpointTaken endpointsTaken taken endpointZero acceptedBy acceptStep readyAt drained visit walked told ended walkedOn acceptedOn roundOut pollLogged
+unfolding bit raised clear bitsBelow setBits freshFile freshRegs index withIndex intrusb withIntrusb intrOf withIntr sideWord sideOf sideIn withSideIn sideAt withSide csr0lRead txcsrlOf rxcsrlOf txStored rxStored txcsrlSet rxcsrlSet dropped listed listing withOwn writeIndex writeTxcsrl writeRxcsrl modifyTxcsrl modifyRxcsrl writePacket interrupting waitingAt arrived collected busRaised busReset busResume intrusbCleared intrCleared underRunCleared overRunCleared repaired numbers repairedBelow freshRecord txPktRdy rxPktRdy rxCount write.ownTestsAt write.notWritable write-write.writeDone write-write.loaded write-write.sent write-write.sentOther read.ownTestsAt read.notReadable read.notSetup read-read.readDone read-read.got read-read.readOther collectedFrom snapshotOf cleared busTaken raisedIf endpointTaken endpointsTaken taken endpointZero acceptedBy acceptStep readyAt drained visit walked told ended walkedOn acceptedOn roundOut pollLogged
 computed =
     record {
       waits = record { arrived = tt; still = (tt, (tt, (tt, tt))); taken = tt; polled = tt };

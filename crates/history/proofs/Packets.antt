@@ -1,6 +1,6 @@
 -- Over every operation: at endpoints 1 to 5 there waits what arrived and was not taken. Assumes nothing.
 use mathlib.Core.Path.{_≡_, refl, sym, ap, subst, _∙_}
-use mathlib.Core.Bool.{Bool, true, false, not, cond, _&&_, _||_}
+use mathlib.Core.Bool.{Bool, true, false, not, cond, _&&_, _||_, and-true}
 use mathlib.Core.List.{List}
 use Prim.Native.Nat.{ℕ, _<_}
 use native.Mathlib.Omega.{arith}
@@ -8,7 +8,6 @@ use native.Mathlib.Decide.{ℕ-discrete}
 use borrow.Author.Tests.{eq-eqb, ne-eqb}
 use lib.Dec.{T, eqb}
 use lib.ListN.{length}
-use Rattle.laws.proofs.Tests.{and-one}
 use Rattle.board.specs.declared.Board.{Board}
 use Rattle.board.specs.declared.Direction.{Direction}
 use Rattle.board.specs.declared.Direction.the-variants.{Out, In}
@@ -64,7 +63,7 @@ module _ (b : Board) (k : Record) (kept : Kept b k) (e : ℕ) (ep : Endpoint (dr
   module _ (i : ℕ) (bytes f : List ℕ) where
     arrived : (x : Admission) → refusal k i bytes f ≡ x
         → Lasts (arrivalOf k i bytes f x .event .«record») (arrivalEvent (arrivalOf k i bytes f x .event .answer) i) false
-    arrived (Refused x) p = sym (and-one (waiting k e))
+    arrived (Refused x) p = sym (and-true (waiting k e))
     arrived Clear p =
         ap (λ (s : Side). s .ready)
         (promised.sides (events.arrival i (length bytes)) (k .regs .words) e Out six (there k i (length bytes) (length f) p))
@@ -74,7 +73,7 @@ module _ (b : Board) (k : Record) (kept : Kept b k) (e : ℕ) (ep : Endpoint (dr
             → cond (eqb e i) (received (length bytes) (sideAt (k .regs .words) e Out)) (sideAt (k .regs .words) e Out) .ready
             ≡ (eqb i e || (waiting k e && true))
         here (yes q) = rw (eq-eqb e i q, eq-eqb i e (sym q))
-        here (no m) = rw (ne-eqb e i m, ne-eqb i e (λ q. m (sym q))) (sym (and-one (waiting k e)))
+        here (no m) = rw (ne-eqb e i m, ne-eqb i e (λ q. m (sym q))) (sym (and-true (waiting k e)))
 
     arrival-lasts : Lasts (step k (arrival i bytes f)) (event k (arrival i bytes f)) false
     arrival-lasts =
@@ -119,7 +118,7 @@ module _ (b : Board) (k : Record) (kept : Kept b k) (e : ℕ) (ep : Endpoint (dr
   lasts onInterrupt =
       let v = interruptEvent (interruptCall k .answer) k in
       calm (step k onInterrupt) v false (is-down (arrivesAt e v) (interrupt-brings-none e (interruptCall k .answer) k)) (interrupt-remain k .ready e high)
-  lasts forceReset = sym (and-one (waiting k e))
+  lasts forceReset = sym (and-true (waiting k e))
   lasts (arrival i x f) = arrival-lasts i x f
   lasts (collection i f) = event-remain k six (collected i) (happening.collection-comes k i f) .ready e high
   lasts busReset = event-remain k six (λ j s. refl) (happening.bus-reset k) .ready e high

@@ -62,7 +62,7 @@ module _ (b : Board) (k : Record) (kept : Kept b k) where
       record {
         six = kept .good .six;
         low = le-trans (kept .good .sound .regs .selected) (at-most-six (k .regs .board));
-        packet = λ e. record { ready = refl; len = refl };
+        packet = λ e. record { ready = refl; length = refl };
       }
 
   counted : endpointsOf k ≤ 6

@@ -38,21 +38,17 @@ use Rattle.transfer_rules.proofs.Readings.{rx-ready}
 use Rattle.round_rules.specs.Zero.{Round, round, setupTaken, restarted, cutShort, receivedBy, zeroBy, zeroServed, endpointZero}
 use Rattle.round_rules.specs.Walk.{readyAt, walked}
 use Rattle.round_rules.proofs.Drained.{leftBy, walked-left}
+use Rattle.csr.specs.Kept.{SamePacket}
 
 -- what endpoint 0's step stores to CSR0L
 abbrev setupEndServiced : File → Csr0l
 setupEndServiced r = csr0lSet ServicedSetupEnd (csr0lRead r)
 
--- a side with the same packet waiting, or none as before
-pub record SamePacket (s t : Side) : Type 0 where
-  pub ready : t .ready ≡ s .ready
-  pub len : t .len ≡ s .len
-
 same : (s : Side) → SamePacket s s
-same s = record { ready = refl; len = refl }
+same s = record { ready = refl; length = refl }
 
 equal : {s t : Side} → t ≡ s → SamePacket s t
-equal p = record { ready = ap (λ (x : Side). x .ready) p; len = ap (λ (x : Side). x .len) p }
+equal p = record { ready = ap (λ (x : Side). x .ready) p; length = ap (λ (x : Side). x .len) p }
 
 -- r: the registers before the poll; of each receive side, what reply 16 asks of a side with nothing waiting
 module _ (r : File) (none : (e : ℕ) → sideAt r e Out .ready ≡ false → sideAt r e Out .len ≡ 0) where
@@ -74,7 +70,7 @@ module _ (r : File) (none : (e : ℕ) → sideAt r e Out .ready ≡ false → si
             let p = sides o h e Out (w .six) (w .low) in
             record {
               ready = ap (λ (x : Side). x .ready) p ∙ side e .ready ∙ w .packet e .ready;
-              len = ap (λ (x : Side). x .len) p ∙ side e .len ∙ w .packet e .len;
+              length = ap (λ (x : Side). x .len) p ∙ side e .length ∙ w .packet e .length;
             };
       }
 
@@ -103,10 +99,10 @@ module _ (r : File) (none : (e : ℕ) → sideAt r e Out .ready ≡ false → si
   over h w = go (rxcsrlRead (h .regs) .«over_run»)
     where
       ok : (e : ℕ) → SideOk (sideAt (h .regs) e Out .len) (sideAt (h .regs) e Out)
-      ok e = record { fits = le-refl _; none = λ p. w .packet e .len ∙ none e (sym (w .packet e .ready) ∙ p) }
+      ok e = record { fits = le-refl _; none = λ p. w .packet e .length ∙ none e (sym (w .packet e .ready) ∙ p) }
 
       repairs : (s t : Side) → SideOk (s .len) s → t ≡ s → SamePacket s (rxStored (rxcsrlSet NoOverRun (rxcsrlOf t)) s)
-      repairs s t k p = rw p (let q = rx-repaired (s .len) s k in record { ready = ap (λ (x : Side). x .ready) q; len = ap (λ (x : Side). x .len) q })
+      repairs s t k p = rw p (let q = rx-repaired (s .len) s k in record { ready = ap (λ (x : Side). x .ready) q; length = ap (λ (x : Side). x .len) q })
 
       spared : (a : Bool) (s t : Side) → SamePacket s t → SamePacket s (cond a s t)
       spared true s t p = same s

@@ -7,6 +7,8 @@ use lib.ListN.{length}
 use Rattle.board.specs.declared.Board.{Board}
 use Rattle.board.specs.declared.Direction.the-variants.{Out, In}
 use Rattle.register_file.specs.Registers.{intrOf}
+use Rattle.event_rules.specs.declared.BusEvent.the-variants as bus
+use Rattle.event_rules.specs.Events as wire
 use Rattle.event_rules.specs.Promise as events
 use Rattle.event_rules.specs.Promise.{happens, raises}
 use Rattle.event_rules.proofs.Promises.{pending}
@@ -95,7 +97,7 @@ module _ (b : Board) (k : Record) (kept : Kept b k) where
   plain = admissionBy false (recordSound k) false
 
   pub does : (o : Op) → Does (look b) k (event k o) (step k o)
-  unfolding host.collectionCall host.busResetCall host.suspendCall host.resumeCall host.setupEndCall host.underrunCall host.overrunCall host.missCall
+  unfolding host.collectionCall host.busResetCall host.suspendCall host.resumeCall host.setupEndCall host.underrunCall host.overrunCall host.missCall wire.busReset wire.busSuspend wire.busResume
   does (poll l) = poll-does b k kept l (same-pending k (poll l) (kept .good .six) tt .intr Out)
   does onInterrupt = interrupt-does b k kept
   does (arrival e bytes f) = arrival-does k e bytes f b (kept .good .six)
@@ -110,9 +112,9 @@ module _ (b : Board) (k : Record) (kept : Kept b k) where
   does (isStalled e d l) = flags-same (isStalled e d l) tt (is-stalled-call k l e d)
   does forceReset = flags-same forceReset tt refl
   does (collection e f) = collects (host.collectionRefusal k e (length f)) e
-  does busReset = event-does plain events.reset refl
-  does suspend = event-does plain events.suspend refl
-  does resume = event-does plain events.resume refl
+  does busReset = event-does plain (events.onBus bus.Reset) refl
+  does suspend = event-does plain (events.onBus bus.Suspend) refl
+  does resume = event-does plain (events.onBus bus.Resume) refl
   does setupEnd = event-does plain events.setupend refl
   does (underrun e) = event-does (host.missRefusal k e) (events.miss e In) refl
   does (overrun e) = event-does (host.missRefusal k e) (events.miss e Out) refl

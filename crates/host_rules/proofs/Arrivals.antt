@@ -2,7 +2,6 @@
 -- Assumes nothing.
 use Prim.Native.Nat.{ℕ}
 use mathlib.Core.Path.{_≡_, refl}
-use mathlib.Core.Bool.{Bool, true, false}
 use mathlib.Core.List.{List}
 use native.Mathlib.Omega.{arith}
 use borrow.Author.Tests.{ltb-false}
@@ -19,19 +18,14 @@ use Rattle.record.specs.Bytes.{Fills}
 use Rattle.record.proofs.Areas.{area-within}
 use Rattle.record.proofs.Bytes.{pasted-fills}
 use Rattle.record.proofs.Numbers.{not-zero}
-use Rattle.host_rules.specs.Host.{entryAt, arrivalBy, arrivalRefusalIn, arrivalRefusal, Arrival, unlessArrived, arrivalCall, eventNumber}
-use Rattle.host_rules.proofs.Host.{never, admitted}
-
-cleared : (t : Admission) (long waits : Bool) → arrivalBy t long waits ≡ Clear → (t ≡ Clear) × (long ≡ false)
-cleared (Refused x) l v d = never d
-cleared Clear true v d = never d
-cleared Clear false v d = (refl, refl)
+use Rattle.host_rules.specs.Host.{entryAt, arrivalRefusalIn, arrivalRefusal, Arrival, unlessArrived, arrivalCall, eventNumber}
+use Rattle.host_rules.proofs.Host.{admitted, arrival-passed}
 
 module _ (k : Record) (e : ℕ) (b f : List ℕ) where
   fills-clear : arrivalRefusal k e (length b) (length f) ≡ Clear → Fills (areaOf k e Out) b f (pasted f (areaOf k e Out .start) b)
   unfolding arrivalRefusal arrivalRefusalIn areaOf
   fills-clear c =
-      let (p, short) = cleared (entryAt k e (length f)) (ltb (areaIn (k .regs .board) e Out .size) (length b)) (sideAt (k .regs .words) e Out .ready) c in
+      let (p, short, _) = arrival-passed (entryAt k e (length f)) (ltb (areaIn (k .regs .board) e Out .size) (length b)) (sideAt (k .regs .words) e Out .ready) c in
       pasted-fills (areaOf k e Out) b f (ltb-false _ _ short) (omega (arith, area-within k e Out, admitted k e (length f) p .enough))
 
   pub fills : eventNumber (arrivalCall k e b f .event .answer) ≡ 0 → Fills (areaOf k e Out) b f (arrivalCall k e b f .fifo)

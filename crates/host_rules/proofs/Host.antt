@@ -5,11 +5,10 @@ use mathlib.Core.Path.{_≡_, refl, sym, _∙_}
 use mathlib.Core.Bool.{Bool, true, false}
 use mathlib.Core.List.{List}
 use native.Mathlib.Omega.{arith}
-use borrow.Author.Tests.{ltb-false, leb-false, lt-ltb, le-ltb}
+use borrow.Author.Tests.{ltb-false, lt-ltb, le-ltb}
 use lib.Dec.{ltb}
 use lib.ListN.{length}
 use Rattle.laws.specs.Lists.{pasted}
-use Rattle.board.specs.Boards.{at-most-six}
 use Rattle.board.specs.declared.Board.{Board}
 use Rattle.board.specs.declared.Direction.the-variants.{Out, In}
 use Rattle.board.specs.declared.Span.{Span}
@@ -21,9 +20,9 @@ use Rattle.record.specs.declared.Refusal.{Refusal}
 use Rattle.record.specs.declared.Refusal.the-variants.{TooLong, OutOfTurn}
 use Rattle.record.specs.declared.Admission.{Admission}
 use Rattle.record.specs.declared.Admission.the-variants.{Clear, Refused}
-use Rattle.record.specs.Record.{passes, recordSound, endpointsIn, areaIn, areaOf, needIn, needOf, withRegs}
-use Rattle.record.proofs.Areas.{area-within}
-use Rattle.record.proofs.Rows.{none-refused}
+use Rattle.record.specs.Record.{passes, recordSound, areaIn, areaOf, needIn, needOf, withRegs}
+use Rattle.record.proofs.Areas.{area-within, below-six}
+use Rattle.record.proofs.Rows.{none-refused, unlike}
 use Rattle.record.proofs.Passing.{record-is-sound, waiting-fits}
 use Rattle.host_rules.specs.declared.EventAnswer.{EventAnswer}
 use Rattle.host_rules.specs.declared.EventAnswer.the-variants as happened
@@ -32,18 +31,11 @@ use Rattle.host_rules.specs.declared.CollectAnswer.the-variants as colle
 use Rattle.host_rules.specs.declared.CollectCalled.{CollectCalled}
 use Rattle.host_rules.specs.Host.{answerBy, leftBy, unless, entryIn, entryAt, Admitted, arrivalBy, arrivalRefusalIn, arrivalRefusal, done, unlessArrived, arrivalCall, collectionBy, collectionRefusalIn, collectionRefusal, packetIn, collectedFrom, collectBy, unlessCollected, collectionCall, InBuffer}
 
-pub never {ℓ} : {A : Type ℓ} {x : Refusal} → Refused x ≡ Clear → A
-never e = let z : _≡_ {A = ℕ} 0 1 = cc in absurd (omega arith)
-
-at-most : (b : Board) → endpointsIn b ≤ 6
-unfolding endpointsIn
-at-most b = at-most-six b
-
 -- what the first tests let through
 entering : (b : Board) (w : File) (f : Flags) (e m : ℕ) → entryIn b w f e m ≡ Clear → (needIn b ≤ m) × (passes b w f ≡ true) × (e < 6)
 entering b w f e m p =
     let c = none-refused _ _ _ p in
-    (ltb-false m (needIn b) (c .0), c .1, omega (arith, leb-false (endpointsIn b) e (c .2), at-most b))
+    (ltb-false m (needIn b) (c .0), c .1, below-six b e (c .2))
 
 pub admitted : (k : Record) (e m : ℕ) → entryAt k e m ≡ Clear → Admitted k e m
 unfolding needOf recordSound
@@ -79,6 +71,12 @@ together k t q says left = (λ i. record { answer = says i; «record» = withReg
     by Clear = refl
 
 -- the tests of an arrival, after the first ones
+pub arrival-passed : (t : Admission) (long waits : Bool) → arrivalBy t long waits ≡ Clear → (t ≡ Clear) × (long ≡ false) × (waits ≡ false)
+arrival-passed (Refused x) l v d = unlike d
+arrival-passed Clear true v d = unlike d
+arrival-passed Clear false true d = unlike d
+arrival-passed Clear false false d = (refl, refl, refl)
+
 module _ (b : Board) (w : File) (f : Flags) (e n m : ℕ) where
   pub arrival-first : {t : Admission} {x : Refusal} → t ≡ entryIn b w f e m → t ≡ Refused x → Refused x ≡ arrivalRefusalIn b w f e n m
   unfolding arrivalRefusalIn
@@ -104,15 +102,10 @@ module _ (b : Board) (w : File) (f : Flags) (e n m : ℕ) where
       → s .size < 65536 → (e < 16) × (n < 65536) × (n ≤ s .size) × (s .start + s .size ≤ m)
   unfolding arrivalRefusalIn
   arriving-fits {s} is c q h l =
-      let (p, long) = cleared (entryIn b w f e m) (ltb (areaIn b e Out .size) n) (sideAt w e Out .ready) (sym is ∙ c) in
+      let (p, long, _) = arrival-passed (entryIn b w f e m) (ltb (areaIn b e Out .size) n) (sideAt w e Out .ready) (sym is ∙ c) in
       let (enough, _, below) = entering b w f e m p in
       let fits : n ≤ s .size = rw q (ltb-false (areaIn b e Out .size) n long) in
       (omega (arith, below), omega (arith, fits, l), fits, omega (arith, h, enough))
-    where
-      cleared : (t : Admission) (long waits : Bool) → arrivalBy t long waits ≡ Clear → (t ≡ Clear) × (long ≡ false)
-      cleared (Refused x) l v d = never d
-      cleared Clear true v d = never d
-      cleared Clear false v d = (refl, refl)
 
 pub arriving : (k : Record) (e : ℕ) (b f : List ℕ) {a : EventAnswer} {w : File} {g : List ℕ}
     → a ≡ answerBy (arrivalRefusalIn (k .regs .board) (k .regs .words) (k .irq) e (length b) (length f))
@@ -131,6 +124,10 @@ arriving k e b f says left bytes =
     by Clear q g = refl
 
 -- the test of a collection, after the first ones
+pub collection-passed : (t : Admission) (waits : Bool) → collectionBy t waits ≡ Clear → t ≡ Clear
+collection-passed (Refused x) v d = unlike d
+collection-passed Clear v d = refl
+
 module _ (b : Board) (w : File) (f : Flags) (e m : ℕ) where
   pub collection-first : {t : Admission} {x : Refusal} → t ≡ entryIn b w f e m → t ≡ Refused x → Refused x ≡ collectionRefusalIn b w f e m
   unfolding collectionRefusalIn
@@ -148,11 +145,7 @@ module _ (b : Board) (w : File) (f : Flags) (e m : ℕ) where
 
   pub collecting-below : {t : Admission} → t ≡ collectionRefusalIn b w f e m → t ≡ Clear → e < 6
   unfolding collectionRefusalIn
-  collecting-below is c = entering b w f e m (cleared (entryIn b w f e m) (sideAt w e In .ready) (sym is ∙ c)) .2
-    where
-      cleared : (t : Admission) (waits : Bool) → collectionBy t waits ≡ Clear → t ≡ Clear
-      cleared (Refused x) v d = never d
-      cleared Clear v d = refl
+  collecting-below is c = entering b w f e m (collection-passed (entryIn b w f e m) (sideAt w e In .ready) (sym is ∙ c)) .2
 
 -- the packet's place, where it is given
 module _ {t u : Admission} where

@@ -1,10 +1,14 @@
 -- Where an endpoint's area lies: it ends within the buffer that is asked for, and shares no byte with another. Assumes nothing.
-use Prim.Native.Nat.{ℕ, zero, suc, _+_, _≤_}
+use Prim.Native.Nat.{ℕ, zero, suc, _+_, _≤_, _<_}
+use mathlib.Core.Bool.{false}
+use borrow.Author.Tests.{leb-false}
+use lib.Dec.{leb}
 use mathlib.Core.Path.{_≡_, refl, ap, sym, _∙_}
 use native.Mathlib.Omega.{arith}
 use native.Mathlib.Nat.{le-trans}
 use lib.ListN.{length, getD, List·getD-eq-default}
 use Rattle.board.specs.declared.Row.{Row}
+use Rattle.board.specs.declared.Board.{Board}
 use Rattle.board.specs.declared.Board.the-variants.{Display}
 use Rattle.board.specs.declared.Direction.{Direction}
 use Rattle.board.specs.declared.Direction.the-variants.{Out, In}
@@ -31,6 +35,11 @@ six-endpoints k e = ap length (rows-if-display (k .regs .board) e)
 pub need-1664 : (k : Record) → k .regs .board ≡ Display → needOf k ≡ 1664
 unfolding needIn needOf
 need-1664 k e = ap table.total (rows-if-display (k .regs .board) e) ∙ display-total
+
+-- an endpoint that is not refused is one of six
+pub below-six : (b : Board) (e : ℕ) → leb (endpointsIn b) e ≡ false → e < 6
+unfolding endpointsIn
+below-six b e p = omega (arith, leb-false (length (rows b)) e p, at-most-six b)
 
 -- past the last endpoint an area has no room
 no-room : (d : Direction) → roomOf none d ≡ 0

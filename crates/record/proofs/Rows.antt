@@ -104,10 +104,11 @@ module _ (k : Record) where
   pub first-plain : Given (admissionNumber (admissionBy false (recordSound k) false)) (row 16 (SoundRecord k → ⊥) ∷ [])
   first-plain = rw (numbered false (recordSound k) false) (tested 16 _ _ _ (tells-bad k) none-left)
 
--- where the first tests refuse nothing, none of them holds
-unlike : {A : Type 0} {x : Refusal} → Refused x ≡ Clear → A
+-- what is refused is not let through
+pub unlike {ℓ} : {A : Type ℓ} {x : Refusal} → Refused x ≡ Clear → A
 unlike e = let z : _≡_ {A = ℕ} 0 1 = cc in absurd (omega arith)
 
+-- where the first tests refuse nothing, none of them holds
 pub none-refused : (s p b : Bool) → admissionBy s p b ≡ Clear → (s ≡ false) × (p ≡ true) × (b ≡ false)
 none-refused true p b e = unlike e
 none-refused false false b e = unlike e

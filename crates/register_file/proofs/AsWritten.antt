@@ -2,13 +2,12 @@
 -- Assumes nothing.
 use Prim.Native.Nat.{ℕ, _<_}
 use mathlib.Core.Path.{_≡_, refl, ap, _∙_}
-use mathlib.Core.Bool.{Bool, true, false, not, _&&_, cond}
+use mathlib.Core.Bool.{Bool, true, false, not, _&&_, cond, and-false, and-true}
 use mathlib.Core.List.{List}
 use native.Mathlib.Omega.{arith}
 use lib.Dec.{eqb}
 use lib.ListN.{length, getD, length-set}
 use lib.Seq.{getD-set-same, getD-set-other}
-use Rattle.laws.proofs.Tests.{and-zero, and-one}
 use Rattle.board.specs.declared.Direction.{Direction}
 use Rattle.board.specs.declared.Direction.the-variants.{Out, In}
 use Rattle.csr.specs.declared.Csr0l.{Csr0l}
@@ -18,18 +17,15 @@ use Rattle.register_file.specs.Control.{csr0lStored, csr0hFlushed, csr0l
 use Rattle.register_file.specs.Sound.{Sound}
 use Rattle.register_file.proofs.Sides.{side-same, side-other, side-flip, set-keeps, keeps, keeps-length}
 use Rattle.csr.proofs.Sides.{in-out}
+use Rattle.register_file.proofs.Words.{is-one}
 
-setupend-keeps : (q : File) (b : Bool) (e : ℕ) (d : Direction) → sideAt (withSetupend q b) e d ≡ sideAt q e d
+pub setupend-keeps : (q : File) (b : Bool) (e : ℕ) (d : Direction) → sideAt (withSetupend q b) e d ≡ sideAt q e d
 unfolding withSetupend
 setupend-keeps q b e d = set-keeps q 9 (cond b 1 0) e d (omega arith)
 
 setupend-is : (q : File) (b : Bool) → Whole q → setupend (withSetupend q b) ≡ b
 unfolding setupend withSetupend
-setupend-is q b k = ap (λ (n : ℕ). eqb n 1) (getD-set-same q 9 (cond b 1 0) 0 (omega arith)) ∙ one b
-  where
-    one : (b : Bool) → eqb (cond b 1 0) 1 ≡ b
-    one true = refl
-    one false = refl
+setupend-is q b k = ap (λ (n : ℕ). eqb n 1) (getD-set-same q 9 (cond b 1 0) 0 (omega arith)) ∙ is-one b
 
 -- what a store to CSR0L and a flush by CSR0H leave on endpoint 0's two sides
 module _ (w : Csr0l) (r : File) (six : Whole r) where
@@ -46,11 +42,11 @@ module _ (w : Csr0l) (r : File) (six : Whole r) where
   -- "RxPktRdy and SetupEnd of endpoint 0 are cleared only by their Serviced bits or a flush (RxPktRdy)."
   pub zero-serviced : w .«serviced_rx_pkt_rdy» ≡ true → (sideAt (csr0lStored w r) 0 Out .ready ≡ false) × (sideAt (csr0lStored w r) 0 Out .len ≡ 0)
   unfolding dropped
-  zero-serviced e = (rw (zero-out, e) (and-zero (sideAt r 0 Out .ready)), rw (zero-out, e))
+  zero-serviced e = (rw (zero-out, e) (and-false (sideAt r 0 Out .ready)), rw (zero-out, e))
 
   pub zero-waits : w .«serviced_rx_pkt_rdy» ≡ false → sideAt (csr0lStored w r) 0 Out ≡ sideAt r 0 Out
   unfolding dropped
-  zero-waits e = rw (zero-out, e, and-one (sideAt r 0 Out .ready))
+  zero-waits e = rw (zero-out, e, and-true (sideAt r 0 Out .ready))
 
   both : Whole (withSide (withSide r 0 In (zeroTxStored w (sideAt r 0 In))) 0 Out (dropped (w .«serviced_rx_pkt_rdy») (sideAt r 0 Out)))
   both = keeps-length _ 0 Out _ ∙ keeps-length r 0 In _ ∙ six
@@ -60,10 +56,10 @@ module _ (w : Csr0l) (r : File) (six : Whole r) where
   setup-ends = setupend-is _ _ both
 
   pub setup-serviced : w .«serviced_setup_end» ≡ true → setupend (csr0lStored w r) ≡ false
-  setup-serviced e = setup-ends ∙ rw e (and-zero (setupend r))
+  setup-serviced e = setup-ends ∙ rw e (and-false (setupend r))
 
   pub setup-kept : w .«serviced_setup_end» ≡ false → setupend (csr0lStored w r) ≡ setupend r
-  setup-kept e = setup-ends ∙ rw e (and-one (setupend r))
+  setup-kept e = setup-ends ∙ rw e (and-true (setupend r))
 
 -- the rest of the file, and how long it is
 pub zero-keeps : (w : Csr0l) (r : File) (q : ℕ) → q < 9 → getD (csr0lStored w r) q 0 ≡ getD r q 0

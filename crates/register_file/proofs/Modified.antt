@@ -1,8 +1,7 @@
 -- What each `modify` of CSR0L of the source does to the sides of endpoint 0 and to SetupEnd.
 -- Assumes nothing.
 use mathlib.Core.Path.{_≡_, refl, ap, _∙_}
-use mathlib.Core.Bool.{Bool, not, _&&_}
-use Rattle.laws.proofs.Tests.{and-one, and-self, or-one, or-self}
+use mathlib.Core.Bool.{Bool, not, _&&_, and-true, or-true, and-self, or-self}
 use Rattle.board.specs.declared.Direction.the-variants.{Out, In}
 use Rattle.csr.specs.declared.Csr0lSet.{Csr0lSet}
 use Rattle.csr.specs.declared.Csr0lSet.the-variants as csr0l
@@ -15,7 +14,7 @@ use Rattle.csr.proofs.Modified.{readied}
 -- CSR0L, on endpoint 0's transmit side: TxPktRdy is set, or nothing changes
 pub zero-readied : (r : File) → zeroTxStored (csr0lSet csr0l.TxPktRdy (csr0lRead r)) (sideAt r 0 In) ≡ readied (sideAt r 0 In)
 unfolding zeroTxStored csr0lSet csr0lRead
-zero-readied r = rw (or-one (sideAt r 0 In .ready), and-self (sideAt r 0 In .stalled))
+zero-readied r = rw (or-true (sideAt r 0 In .ready), and-self (sideAt r 0 In .stalled))
 
 pub zero-kept : (r : File) (s : Csr0lSet) → (s ≡ csr0l.TxPktRdy → ⊥) → zeroTxStored (csr0lSet s (csr0lRead r)) (sideAt r 0 In) ≡ sideAt r 0 In
 unfolding zeroTxStored csr0lSet csr0lRead
@@ -44,4 +43,4 @@ zero-ends r s six = setup-ends _ r six ∙ ap (λ (b : Bool). setupend r && not 
 -- servicing a setup end leaves a packet waiting
 pub zero-still-waits : (r : File) → dropped (csr0lSet csr0l.ServicedSetupEnd (csr0lRead r) .«serviced_rx_pkt_rdy») (sideAt r 0 Out) ≡ sideAt r 0 Out
 unfolding csr0lSet csr0lRead dropped
-zero-still-waits r = rw (and-one (sideAt r 0 Out .ready))
+zero-still-waits r = rw (and-true (sideAt r 0 Out .ready))

@@ -64,9 +64,9 @@ unfolding index withIndex
 selected r i k = getD-set-same r 0 i 0 (omega arith)
 
 -- so the selected side is that of the endpoint; a list with no number at all has nothing at any side, so that this asks no length
-pub chosen-selected : (w : File) (e : ℕ) (d : Direction) → chosen (withIndex w e) d ≡ sideAt (withIndex w e) e d
+pub chosen-selected : (w : File) (e : ℕ) (d : Direction) → chosen (withIndex w e) d ≡ sideAt w e d
 unfolding index withIndex sideAt sideIn sideOf bit
-chosen-selected (x ∷ w) e d = refl
+chosen-selected (x ∷ w) e d = reselected (x ∷ w) e e d
 chosen-selected [] e d = go (ltb e 6)
   where
     go : (b : Bool) → noSide ≡ cond b noSide noSide

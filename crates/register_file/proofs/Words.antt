@@ -4,11 +4,12 @@ use Prim.Native.Nat.{ℕ, _<_, _≤_}
 use mathlib.Core.Path.{_≡_, refl}
 use mathlib.Core.Bool.{Bool, true, false, cond}
 use native.Mathlib.Omega.{arith}
+use lib.Dec.{eqb}
 use Rattle.laws.specs.Words.{bit}
 use Rattle.csr.specs.declared.Side.{Side}
 use Rattle.register_file.specs.Registers.{sideWord, sideOf}
 
-abbrev made : Bool → Bool → Bool → Bool → Bool → ℕ → ℕ → Side
+abbrev pub made : Bool → Bool → Bool → Bool → Bool → ℕ → ℕ → Side
 made a b c d e m n = record { ready = a; missed = b; stall = c; stalled = d; iso = e; maxp = m; len = n }
 
 word : (a b c d e : Bool) (m n : ℕ) → sideOf (sideWord (made a b c d e m n)) m n ≡ made a b c d e m n
@@ -49,9 +50,13 @@ word false false false false false m n = refl
 pub read-back : (s : Side) → sideOf (sideWord s) (s .maxp) (s .len) ≡ s
 read-back s = word (s .ready) (s .missed) (s .stall) (s .stalled) (s .iso) (s .maxp) (s .len)
 
-at-most : (b : Bool) (n : ℕ) → cond b n 0 ≤ n
+pub at-most : (b : Bool) (n : ℕ) → cond b n 0 ≤ n
 at-most true n = omega arith
 at-most false n = omega arith
+
+pub is-one : (b : Bool) → eqb (cond b 1 0) 1 ≡ b
+is-one true = refl
+is-one false = refl
 
 pub word-lt : (s : Side) → sideWord s < 32
 unfolding sideWord

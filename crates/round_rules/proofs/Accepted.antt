@@ -1,12 +1,11 @@
 -- The Accepted step leaves what specs/Accepted.antt says, and in any other state nothing happens. Assumes nothing.
 use Prim.Native.Nat.{ℕ, _<_}
 use mathlib.Core.Path.{_≡_, refl, sym, ap, subst, _∙_}
-use mathlib.Core.Bool.{Bool, true, false, not, _&&_, _||_, cond}
+use mathlib.Core.Bool.{Bool, true, false, not, _&&_, _||_, cond, and-false, and-true, or-false, or-true}
 use borrow.Author.Tests.{ne-eqb}
 use lib.Dec.{lit<}
 use Rattle.laws.specs.Words.{bit, raised, clear}
 use Rattle.laws.proofs.Words.{bit-raised, bit-clear, raised-lt6, clear-lt}
-use Rattle.laws.proofs.Tests.{and-zero, and-one, or-zero, or-one}
 use Rattle.control_state.specs.declared.ControlState.{ControlState}
 use Rattle.control_state.specs.declared.ControlStateEnum.{ControlStateEnum}
 use Rattle.control_state.specs.declared.ControlStateEnum.the-variants.{Idle, Setup, DataIn, DataOut, Accepted, NodataPhase}
@@ -26,11 +25,11 @@ module _ (c : ControlState) (f : Flags) where
 
   module _ (tx : f .«ep_tx» < 64) (rx : f .«ep_rx» < 64) where
     gone : bit (clear (f .«ep_rx») 0) 0 ≡ false
-    gone = bit-clear (f .«ep_rx») 0 0 rx (lit< tt) (lit< tt) ∙ and-zero (bit (f .«ep_rx») 0)
+    gone = bit-clear (f .«ep_rx») 0 0 rx (lit< tt) (lit< tt) ∙ and-false (bit (f .«ep_rx») 0)
 
     stay : (j : ℕ) → j < 6 → (j ≡ 0 → ⊥) → bit (clear (f .«ep_rx») 0) j ≡ bit (f .«ep_rx») j
     stay j h n =
-        bit-clear (f .«ep_rx») 0 j rx (lit< tt) h ∙ ap (λ (b : Bool). bit (f .«ep_rx») j && not b) (ne-eqb j 0 n) ∙ and-one (bit (f .«ep_rx») j)
+        bit-clear (f .«ep_rx») 0 j rx (lit< tt) h ∙ ap (λ (b : Bool). bit (f .«ep_rx») j && not b) (ne-eqb j 0 n) ∙ and-true (bit (f .«ep_rx») j)
 
     by : (b : Bool) → bit (f .«ep_rx») 0 ≡ b
         → Accepts c f (record { «control_state» = withState c Idle; irq = withTx (cond b (withRx (withEp0 f true) (clear (f .«ep_rx») 0)) f) (raised (cond b (withRx (withEp0 f true) (clear (f .«ep_rx») 0)) f .«ep_tx») 0) })
@@ -41,7 +40,7 @@ module _ (c : ControlState) (f : Flags) where
       otherSent = others;
       unread = gone;
       otherUnread = stay;
-      postponed = sym (ap (λ (b : Bool). f .ep0 || b) p ∙ or-one (f .ep0));
+      postponed = sym (ap (λ (b : Bool). f .ep0 || b) p ∙ or-true (f .ep0));
       reset = refl;
       suspend = refl;
       resume = refl;
@@ -54,7 +53,7 @@ module _ (c : ControlState) (f : Flags) where
       otherSent = others;
       unread = p;
       otherUnread = λ j h n. refl;
-      postponed = sym (ap (λ (b : Bool). f .ep0 || b) p ∙ or-zero (f .ep0));
+      postponed = sym (ap (λ (b : Bool). f .ep0 || b) p ∙ or-false (f .ep0));
       reset = refl;
       suspend = refl;
       resume = refl;

@@ -11,7 +11,7 @@ use Rattle.store_rules.proofs.Promises.{index-selects}
 use Rattle.round_rules.specs.Walk.{readyAt, walked}
 use Rattle.round_rules.specs.Cleared.{readyIn, ClearsHighest}
 use Rattle.round_rules.proofs.Walk.{ready-selected}
-use Rattle.round_rules.proofs.Drained.{leftBy, walked-left, clears-highest, left-low}
+use Rattle.round_rules.proofs.Drained.{leftBy, walked-left, clears-highest}
 
 module _ (g : Log) where
   abbrev Known : Log → Type 0
@@ -30,6 +30,3 @@ module _ (g : Log) where
 
     pub walk-clears : ClearsHighest flags (readyIn (g .regs)) (walked flags g .out)
     walk-clears = subst (ClearsHighest flags (readyIn (g .regs))) (sym left) (clears-highest flags (readyIn (g .regs)) small)
-
-    pub walk-low : walked flags g .out < 64
-    walk-low = subst (λ (w : ℕ). w < 64) (sym left) (left-low flags (readyIn (g .regs)) small)

@@ -2,7 +2,7 @@
 -- Assumes nothing.
 use mathlib.Core.Path.{_≡_, refl, sym, ap, subst, _∙_}
 use mathlib.Core.Logic.{_⊎_, inl, inr}
-use mathlib.Core.Bool.{Bool, true, false, not, _&&_, cond}
+use mathlib.Core.Bool.{Bool, true, false, not, _&&_, cond, and-false, and-true}
 use mathlib.Core.List.{List, [], _∷_, foldl}
 use Prim.Native.Nat.{ℕ, zero, suc, _<_}
 use native.Mathlib.Nat.{not-suc-le-zero}
@@ -11,8 +11,7 @@ use native.Mathlib.Decide.{ℕ-discrete, decLt}
 use lib.Dec.{T, T-not, eqb, eqb-refl}
 use borrow.Author.Tests.{ne-eqb}
 use Rattle.laws.specs.Words.{bit, clear, bitsBelow, setBits}
-use Rattle.laws.proofs.Words.{bit-clear, clear-lt}
-use Rattle.laws.proofs.Tests.{and-zero, and-one}
+use Rattle.laws.proofs.Words.{bit-clear}
 use Rattle.store_rules.specs.Stores.{Log, writeIndex}
 use Rattle.round_rules.specs.Walk.{Walk, readyAt, drained, visit, walked}
 use Rattle.round_rules.specs.Cleared.{ClearsHighest}
@@ -161,10 +160,6 @@ module _ (flags : ℕ) (ready : ℕ → Bool) where
         go (inr (inl e)) = absurd (cleared (subst (λ (m : ℕ). T (bit w m)) (sym e) t))
         go (inr (inr a)) = (x .0, a, x .2 .low, x .2 .set, cleared)
 
-    at-most : (w : ℕ) → Left 6 w → w < 64
-    at-most w (inl x) = omega (arith, x .0)
-    at-most w (inr x) = omega (arith, x .1, clear-lt flags (x .0) small (x .2 .low))
-
     whole : Left 6 (leftBy flags ready)
     whole = subst (Left 6) (sym by-places) (left 6)
 
@@ -181,9 +176,6 @@ module _ (flags : ℕ) (ready : ℕ → Bool) where
         → (j : ℕ) × (i < j) × (j < 6) × T (bit flags j) × (T (bit (leftBy flags ready) j) → ⊥)
     false-naming = falsely _ whole
 
-    pub left-low : leftBy flags ready < 64
-    left-low = at-most _ whole
-
     -- document 01's own words: the highest drained flag goes, and no other
     said : (w : ℕ) → Left 6 w → ClearsHighest flags ready w
     said w (inl x) = inl (x .0, λ i h p. holds (ready i) (x .1 i h (held p)))
@@ -195,8 +187,8 @@ module _ (flags : ℕ) (ready : ℕ → Bool) where
           k,
           record { low = t .low; set = holds (bit flags k) (t .set); drained = fails (ready k) (t .empty); above = λ i a h p. holds (ready i) (t .above i a h (held p)) },
           record {
-            gone = at k (t .low) ∙ ap (λ (b : Bool). bit flags k && not b) (holds (eqb k k) (eqb-refl k)) ∙ and-zero (bit flags k);
-            others = λ j h n. at j h ∙ ap (λ (b : Bool). bit flags j && not b) (ne-eqb j k n) ∙ and-one (bit flags j);
+            gone = at k (t .low) ∙ ap (λ (b : Bool). bit flags k && not b) (holds (eqb k k) (eqb-refl k)) ∙ and-false (bit flags k);
+            others = λ j h n. at j h ∙ ap (λ (b : Bool). bit flags j && not b) (ne-eqb j k n) ∙ and-true (bit flags j);
           },
         )
 

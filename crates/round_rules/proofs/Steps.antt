@@ -26,8 +26,8 @@ use Rattle.round_rules.proofs.Accepted.{accepts}
 use Rattle.round_rules.specs.declared.PollResult.the-variants.{Data, Reset, Resume, Suspend}
 use Rattle.round_rules.specs.declared.PollAnswer.the-variants.{Done}
 use Rattle.round_rules.specs.Round.{masks, told}
-use Rattle.round_rules.specs.Poll.{PollOutcome, ended, walkedOn, acceptedOn, roundOut, pollBy, pollLogged, pollServed, pollCall}
-use Rattle.round_rules.specs.Steps.{FlagStep, leftOf, SameElse, AcceptedRound}
+use Rattle.round_rules.specs.Poll.{ended, walkedOn, acceptedOn, roundOut, pollBy, pollLogged, pollServed, pollCall}
+use Rattle.round_rules.specs.Steps.{FlagStep, leftOf, AcceptedRound}
 use Rattle.round_rules.proofs.PollReplies.{served}
 
 -- `if IRQ_RESET.load(..) { IRQ_RESET.store(false, ..); return PollResult::Reset; }`, and so on
@@ -123,9 +123,3 @@ module _ (k : Record) (l : List ℕ) (long : 384 ≤ length l) (sound : recordSo
   poll-suspends p q s =
       subst (FlagStep Suspend checked (k .«control_state») (k .irq) false (k .irq .suspend) (k .irq .resume)) (sym is-served)
       (suspend-step checked (k .«control_state») (k .irq) p q s)
-
-  pub same-else : SameElse k (pollCall k l .result .«record»)
-  same-else = record {
-    board = ap (λ (o : PollOutcome). o .result .«record» .regs .board) (served k l long sound);
-    endpoints = ap (λ (o : PollOutcome). o .result .«record» .endpoints) (served k l long sound);
-  }

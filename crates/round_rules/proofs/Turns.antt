@@ -1,27 +1,12 @@
 -- The walk of the receive flags: what holds at each turn. Assumes nothing.
-use Prim.Native.Nat.{ℕ, suc, zero, _+_, _*_, _≤_, _<_}
+use Prim.Native.Nat.{ℕ, _+_, _*_, _≤_, _<_}
 use mathlib.Core.Path.{_≡_, refl, sym, ap, _∙_}
-use mathlib.Core.Bool.{Bool, true, false, cond}
-use mathlib.Core.List.{List, [], _∷_, foldl}
+use mathlib.Core.List.{_∷_, foldl}
 use native.Mathlib.Omega.{arith}
 use lib.ListN.{length}
-use Rattle.laws.specs.Words.{bit, bitsBelow, setBits, clear, Lowest}
-use Rattle.laws.proofs.Words.{setBits-zero}
+use Rattle.laws.specs.Words.{setBits, clear, Lowest}
+use Rattle.laws.proofs.Words.{setBits-zero, six-bits}
 use Rattle.round_rules.specs.Walk.{Walk, visit}
-
--- a word has at most six set bits
-kept-length : (b : Bool) (i : ℕ) (l : List ℕ) → length (cond b (i ∷ l) l) ≤ suc (length l)
-kept-length true i l = omega arith
-kept-length false i l = omega arith
-
-below-length : (w n : ℕ) (l : List ℕ) → length (bitsBelow w n l) ≤ n + length l
-unfolding bitsBelow
-below-length w zero l = omega arith
-below-length w (suc n) l = omega (arith, below-length w n (cond (bit w n) (n ∷ l) l), kept-length (bit w n) n l)
-
-pub six : (w : ℕ) → length (setBits w) ≤ 6
-unfolding setBits
-six w = omega (arith, below-length w 6 [])
 
 -- from the walk s on, with the walk o when the flags `rest` are left: the walk over these, from here, is the whole
 pub record Walking (flags : ℕ) (s o : Walk) (rest : ℕ) : Type 0 where
@@ -34,7 +19,7 @@ pub record Walking (flags : ℕ) (s o : Walk) (rest : ℕ) : Type 0 where
 
 module _ (flags : ℕ) (s : Walk) where
   pub begin : flags < 64 → s .out < 64 → Walking flags s s flags
-  begin h k = record { small = h; low = h; under = k; fold = refl; few = omega (arith, six flags); long = refl }
+  begin h k = record { small = h; low = h; under = k; fold = refl; few = omega (arith, six-bits flags); long = refl }
 
   pub turn : (o p : Walk) (rest next e : ℕ) → Walking flags s o rest → Lowest rest e → next ≡ clear rest e → p ≡ visit flags o e
       → p .log .count ≡ o .log .count + 1 → p .out < 64 → length (p .log .list) ≡ length (o .log .list) → Walking flags s p next

@@ -9,7 +9,7 @@ use Rattle.laws.proofs.Tests.{when-true, when-false}
 use Rattle.board.specs.declared.Direction.the-variants.{Out}
 use Rattle.csr.specs.declared.Side.{Side}
 use Rattle.register_file.specs.Registers.{File, withIndex, sideAt}
-use Rattle.register_file.proofs.Readings.{zero-rx-ready, rx-ready, chosen-selected}
+use Rattle.register_file.proofs.Readings.{zero-rx-ready, rx-ready, chosen-selected, reselected}
 use Rattle.register_file.specs.Control.{csr0lRead, rxcsrlRead}
 use Rattle.store_rules.specs.Stores.{Log, writeIndex}
 use Rattle.store_rules.proofs.Promises.{index-selects}
@@ -23,7 +23,7 @@ ready-selected w e = go (ℕ-discrete e 0)
   where
     go : Dec (e ≡ 0) → sideAt (withIndex w e) e Out .ready ≡ cond (eqb e 0) (csr0lRead (withIndex w e) .«rx_pkt_rdy») (rxcsrlRead (withIndex w e) .«rx_pkt_rdy»)
     go (yes z) = when-true _ _ (eq-eqb e 0 z) (ap (λ (f : ℕ). sideAt (withIndex w e) f Out .ready) z ∙ sym (zero-rx-ready (withIndex w e)))
-    go (no n) = when-false _ _ (ne-eqb e 0 n) (ap (λ (s : Side). s .ready) (sym (chosen-selected w e Out)) ∙ sym (rx-ready (withIndex w e)))
+    go (no n) = when-false _ _ (ne-eqb e 0 n) (ap (λ (s : Side). s .ready) (reselected w e e Out ∙ sym (chosen-selected w e Out)) ∙ sym (rx-ready (withIndex w e)))
 
 -- so the flags after an endpoint's turn, with the log g that its index store left
 pub drained-selected : (flags out e : ℕ) (h : Log) {g : Log} {b : Bool} {w : ℕ} → g ≡ writeIndex e h → b ≡ sideAt (g .regs) e Out .ready → w ≡ cond b out (clear flags e)

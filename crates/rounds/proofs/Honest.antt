@@ -3,7 +3,7 @@
 -- always, so the four say little without `NotEmpty`. With the Suspend step mended the last sentence needs no excuse, and one poll more.
 -- Assumes nothing.
 use mathlib.Core.Path.{_≡_, refl, sym, ap, subst, _∙_}
-use mathlib.Core.Bool.{Bool, true, false, not, cond, true≢false, _&&_, _||_}
+use mathlib.Core.Bool.{Bool, true, false, not, cond, true≢false, _&&_, _||_, and-true}
 use Prim.Native.Nat.{ℕ, suc, _+_, _≤_, _<_}
 use native.Mathlib.Omega.{arith}
 use native.Mathlib.Decide.{ℕ-discrete}
@@ -14,7 +14,7 @@ use Rattle.rounds.specs.Sentences.{Sentences, RoundAfter, UntilTaken, Sa
 use Rattle.rounds.specs.Laws.{Look, Quiet, PutDown, Rounds, Pauses, Does, Lawful}
 use Rattle.rounds.specs.Shams.{Bus, State, Op, arrive, collect, take, raise, irq, poll, Polled, none, calm, bothBus, arrived, taken, thrown, hollowed, withFlags, withBus, brings, accepts, step, event, takes, machine, small, calls, inOrder, inMendedOrder, walked, honest, mended, throwsAway, throwsTaken, emptiesWaiting, refuses}
 use Rattle.rounds.proofs.Counts.{count-at-most}
-use Rattle.rounds.proofs.Tests.{and-right, and-both, and-true, is-down}
+use Rattle.rounds.proofs.Tests.{and-right, and-both, is-down}
 use Rattle.rounds.proofs.Lawful.{unchanged}
 use Rattle.rounds.proofs.Third.{round-after}
 use Rattle.rounds.proofs.Sentences.{sentences}
@@ -306,8 +306,8 @@ module _ (top : ℕ) where
 
   comes-in : (s : State) (i n e : ℕ) (b : Bool)
       → cond b (arrived s i n) s .ready e ≡ (arrivesAt e (cond b (arrival i) quiet) || (s .ready e && true))
-  comes-in s i n e true = λ x. swapped e i x || and-true (s .ready e) x
-  comes-in s i n e false = and-true (s .ready e)
+  comes-in s i n e true = λ x. swapped e i x || sym (and-true (s .ready e)) x
+  comes-in s i n e false = sym (and-true (s .ready e))
 
   -- with any poll that leaves the ready bits
   module _
@@ -318,11 +318,11 @@ module _ (top : ℕ) where
       lasts : (s : State) (o : Op) (e : ℕ)
           → step top taken ask s o .ready e ≡ (arrivesAt e (event top taken ask s o) || (s .ready e && not (takes top taken ask s o e)))
       lasts s (arrive i n) e = comes-in s i n e (accepts top s i)
-      lasts s (collect i) e = and-true (s .ready e)
+      lasts s (collect i) e = sym (and-true (s .ready e))
       lasts s (take i) e = refl
-      lasts s (raise b) e = and-true (s .ready e)
-      lasts s irq e = and-true (s .ready e)
-      lasts s poll e = at (stay s) e ∙ (λ x. sym (is-down (arrivesAt e (ask s .event)) (brings-none s e)) x || and-true (s .ready e) x)
+      lasts s (raise b) e = sym (and-true (s .ready e))
+      lasts s irq e = sym (and-true (s .ready e))
+      lasts s poll e = at (stay s) e ∙ (λ x. sym (is-down (arrivesAt e (ask s .event)) (brings-none s e)) x || sym (and-true (s .ready e)) x)
 
       -- only a read takes
       reads-take : (s : State) (o : Op) (e : ℕ) → T (takes top taken ask s o e) → event top taken ask s o ≡ quiet

@@ -42,10 +42,6 @@ pub put-down : (a b : Bool) → T b → T (not (a && not b))
 put-down true b t = not-T (not b) (λ n. T-not b n t)
 put-down false b t = tt
 
-pub and-true : (a : Bool) → a ≡ (a && true)
-and-true true = refl
-and-true false = refl
-
 pub is-down : (a : Bool) → T (not a) → a ≡ false
 is-down true t = absurd t
 is-down false t = refl

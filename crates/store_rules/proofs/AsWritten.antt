@@ -2,12 +2,11 @@
 -- Assumes nothing.
 use Prim.Native.Nat.{ℕ}
 use mathlib.Core.Path.{_≡_, refl, sym, ap, _∙_}
-use mathlib.Core.Bool.{Bool, true, false, cond}
+use mathlib.Core.Bool.{Bool, true, false, cond, and-true}
 use mathlib.Core.Logic.{_⊎_, inl, inr}
 use native.Mathlib.Omega.{arith}
 use native.Mathlib.Decide.{ℕ-discrete}
 use lib.Dec.{eqb}
-use Rattle.laws.proofs.Tests.{and-one}
 use Rattle.board.specs.declared.Direction.{Direction}
 use Rattle.board.specs.declared.Direction.the-variants.{Out, In}
 use Rattle.csr.specs.declared.Side.{Side}
@@ -19,12 +18,12 @@ use Rattle.register_file.specs.Registers.{File, Whole, sideAt, withSide, withFa
 use Rattle.register_file.proofs.Sides.{side-other, side-either, set-keeps}
 use Rattle.register_file.proofs.AsWritten.{zero-out, flush-out}
 use Rattle.store_list.specs.Stores.{FIFO}
-use Rattle.store_rules.specs.Stores.{Log, noted, withOwn, writeFaddr, writePower, writeIndex, writeCsr0l, flushCsr0h, writeTxcsrl, writeRxcsrl, writeIso, writeMaxp, writeIntrusbe, writeIntre, writePacket}
+use Rattle.store_rules.specs.Stores.{Log, listing, withOwn, writeFaddr, writePower, writeIndex, writeCsr0l, flushCsr0h, writeTxcsrl, writeRxcsrl, writeIso, writeMaxp, writeIntrusbe, writeIntre, writePacket}
 use Rattle.store_rules.specs.Promise.{Store, faddr, power, index, csr0l, csr0h, txcsrl, rxcsrl, iso, maxp, intrusbe, intre, packet, does, services, Answered}
 use Rattle.store_rules.proofs.Own.{own-zero, own-there}
 
 stays : {s t : Side} → t ≡ s → Answered false s t
-stays {s} p = rw p (record { ready = sym (and-one (s .ready)); len = refl })
+stays {s} p = rw p (record { ready = sym (and-true (s .ready)); len = refl })
 
 drops : (b : Bool) {s t : Side} → t ≡ dropped b s → Answered b s t
 unfolding dropped
@@ -48,16 +47,16 @@ in-other w i s six = go (side-either w i In s 0 Out six)
     go (inr p) = p
 
 packet-other : (n : ℕ) (g : Log) → Whole (g .regs) → sideAt (writePacket n g .regs) 0 Out ≡ sideAt (g .regs) 0 Out
-unfolding writePacket noted
+unfolding writePacket listing
 packet-other n g six = go (eqb n 0)
   where
     go : (b : Bool)
-        → sideAt (cond b g (noted FIFO n (withChosen (g .regs) In (withLen n (chosen (g .regs) In))) (g .list) (g .count)) .regs) 0 Out ≡ sideAt (g .regs) 0 Out
+        → sideAt (cond b g (listing FIFO n (withChosen (g .regs) In (withLen n (chosen (g .regs) In))) (g .list) (g .count)) .regs) 0 Out ≡ sideAt (g .regs) 0 Out
     go true = refl
     go false = in-other (g .regs) (file.index (g .regs)) (withLen n (chosen (g .regs) In)) six
 
 pub only-serviced : (o : Store) (g : Log) → Whole (g .regs) → Answered (services o) (sideAt (g .regs) 0 Out) (sideAt (does o g .regs) 0 Out)
-unfolding noted writeFaddr writePower writeIndex writeCsr0l flushCsr0h writeTxcsrl writeRxcsrl writeIso writeMaxp writeIntrusbe writeIntre withFaddr withPower withIndex withIntrusbe withEnabled
+unfolding listing writeFaddr writePower writeIndex writeCsr0l flushCsr0h writeTxcsrl writeRxcsrl writeIso writeMaxp writeIntrusbe writeIntre withFaddr withPower withIndex withIntrusbe withEnabled
 only-serviced (faddr a) g six = stays (set-keeps (g .regs) 1 a 0 Out (omega arith))
 only-serviced power g six = stays (set-keeps (g .regs) 2 1 0 Out (omega arith))
 only-serviced (index e) g six = stays (set-keeps (g .regs) 0 e 0 Out (omega arith))

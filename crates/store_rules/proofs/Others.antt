@@ -17,7 +17,7 @@ use Rattle.register_file.proofs.Readings.{selected}
 use Rattle.register_file.specs.Sound.{Clean}
 use Rattle.register_file.proofs.AsWritten.{setup-ends, flush-keeps}
 use Rattle.register_file.proofs.Soundness.{clean-side, clean-set, clean-zero, clean-flush}
-use Rattle.store_rules.specs.Stores.{Log, noted, writeFaddr, writePower, writeIndex, writeCsr0l, flushCsr0h, writeTxcsrl, writeRxcsrl, writeIso, writeMaxp, writeIntrusbe, writeIntre, writePacket}
+use Rattle.store_rules.specs.Stores.{Log, listing, writeFaddr, writePower, writeIndex, writeCsr0l, flushCsr0h, writeTxcsrl, writeRxcsrl, writeIso, writeMaxp, writeIntrusbe, writeIntre, writePacket}
 use Rattle.store_list.specs.Stores.{FIFO, INDEX, listed}
 use Rattle.store_rules.specs.Promise.{Store, faddr, power, index, csr0l, csr0h, txcsrl, rxcsrl, iso, maxp, intrusbe, intre, packet, does, ends, isListed, register, value, Noted}
 use Rattle.store_rules.proofs.Promises.{number}
@@ -28,16 +28,16 @@ unfolding file.setupend
 set-ends w q v h = ap (λ (n : ℕ). eqb n 1) (getD-set-other w q 9 v 0 (λ e. omega arith))
 
 packet-ends : (n : ℕ) (g : Log) → file.setupend (writePacket n g .regs) ≡ file.setupend (g .regs)
-unfolding writePacket noted
+unfolding writePacket listing
 packet-ends n g = go (eqb n 0)
   where
     go : (b : Bool)
-        → file.setupend (cond b g (noted FIFO n (withChosen (g .regs) In (withLen n (chosen (g .regs) In))) (g .list) (g .count)) .regs) ≡ file.setupend (g .regs)
+        → file.setupend (cond b g (listing FIFO n (withChosen (g .regs) In (withLen n (chosen (g .regs) In))) (g .list) (g .count)) .regs) ≡ file.setupend (g .regs)
     go true = refl
     go false = keeps-setupend (g .regs) (file.index (g .regs)) In (withLen n (chosen (g .regs) In))
 
 ended : (o : Store) (g : Log) → Whole (g .regs) → file.setupend (does o g .regs) ≡ ends o (file.setupend (g .regs))
-unfolding noted writeFaddr writePower writeIndex writeCsr0l flushCsr0h writeTxcsrl writeRxcsrl writeIso writeMaxp writeIntrusbe writeIntre withFaddr withPower withIndex withIntrusbe withEnabled file.setupend
+unfolding listing writeFaddr writePower writeIndex writeCsr0l flushCsr0h writeTxcsrl writeRxcsrl writeIso writeMaxp writeIntrusbe writeIntre withFaddr withPower withIndex withIntrusbe withEnabled file.setupend
 ended (faddr a) g six = set-ends (g .regs) 1 a (omega arith)
 ended power g six = set-ends (g .regs) 2 1 (omega arith)
 ended (index e) g six = set-ends (g .regs) 0 e (omega arith)
@@ -58,22 +58,22 @@ pub record Listed (o : Store) (g h : Log) : Type 0 where
   pub count : h .count ≡ cond (isListed o) (g .count + 1) (g .count)
 
 packet-listed : (n : ℕ) (g : Log) → Listed (packet n) g (writePacket n g)
-unfolding writePacket noted
+unfolding writePacket listing
 packet-listed n g = record { list = lists (eqb n 0); count = counts (eqb n 0) }
   where
     lists : (b : Bool)
-        → cond b g (noted FIFO n (withChosen (g .regs) In (withLen n (chosen (g .regs) In))) (g .list) (g .count)) .list
-        ≡ cond (not b) (listed (g .list) (g .count) FIFO (file.index (cond b g (noted FIFO n (withChosen (g .regs) In (withLen n (chosen (g .regs) In))) (g .list) (g .count)) .regs)) n) (g .list)
+        → cond b g (listing FIFO n (withChosen (g .regs) In (withLen n (chosen (g .regs) In))) (g .list) (g .count)) .list
+        ≡ cond (not b) (listed (g .list) (g .count) FIFO (file.index (cond b g (listing FIFO n (withChosen (g .regs) In (withLen n (chosen (g .regs) In))) (g .list) (g .count)) .regs)) n) (g .list)
     lists true = refl
     lists false = refl
 
     counts : (b : Bool)
-        → cond b g (noted FIFO n (withChosen (g .regs) In (withLen n (chosen (g .regs) In))) (g .list) (g .count)) .count ≡ cond (not b) (g .count + 1) (g .count)
+        → cond b g (listing FIFO n (withChosen (g .regs) In (withLen n (chosen (g .regs) In))) (g .list) (g .count)) .count ≡ cond (not b) (g .count + 1) (g .count)
     counts true = refl
     counts false = refl
 
 is-listed : (o : Store) (g : Log) → Whole (g .regs) → Listed o g (does o g)
-unfolding noted writeFaddr writePower writeIndex writeCsr0l flushCsr0h writeTxcsrl writeRxcsrl writeIso writeMaxp writeIntrusbe writeIntre
+unfolding listing writeFaddr writePower writeIndex writeCsr0l flushCsr0h writeTxcsrl writeRxcsrl writeIso writeMaxp writeIntrusbe writeIntre
 is-listed (faddr a) g six = record { list = refl; count = refl }
 is-listed power g six = record { list = refl; count = refl }
 is-listed (index e) g six = record { list = ap (λ (i : ℕ). listed (g .list) (g .count) INDEX i e) (sym (selected (g .regs) e six)); count = refl }
@@ -97,15 +97,15 @@ others o g six = record {
 
 -- no store puts a number into the file that no register can hold
 packet-clean : (n : ℕ) (g : Log) → Whole (g .regs) → Clean (g .regs) → Clean (writePacket n g .regs)
-unfolding writePacket noted
+unfolding writePacket listing
 packet-clean n g six k = go (eqb n 0)
   where
-    go : (b : Bool) → Clean (cond b g (noted FIFO n (withChosen (g .regs) In (withLen n (chosen (g .regs) In))) (g .list) (g .count)) .regs)
+    go : (b : Bool) → Clean (cond b g (listing FIFO n (withChosen (g .regs) In (withLen n (chosen (g .regs) In))) (g .list) (g .count)) .regs)
     go true = k
     go false = clean-side (g .regs) (file.index (g .regs)) In (withLen n (chosen (g .regs) In)) six k
 
 pub clean : (o : Store) (g : Log) → Whole (g .regs) → Clean (g .regs) → Clean (does o g .regs)
-unfolding noted writeFaddr writePower writeIndex writeCsr0l flushCsr0h writeTxcsrl writeRxcsrl writeIso writeMaxp writeIntrusbe writeIntre withFaddr withPower withIndex withIntrusbe withEnabled
+unfolding listing writeFaddr writePower writeIndex writeCsr0l flushCsr0h writeTxcsrl writeRxcsrl writeIso writeMaxp writeIntrusbe writeIntre withFaddr withPower withIndex withIntrusbe withEnabled
 clean (faddr a) g six k = clean-set (g .regs) 1 a (omega arith) k
 clean power g six k = clean-set (g .regs) 2 1 (omega arith) k
 clean (index e) g six k = clean-set (g .regs) 0 e (omega arith) k

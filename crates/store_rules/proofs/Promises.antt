@@ -22,7 +22,7 @@ use Rattle.register_file.specs.Control.{csr0lStored, csr0hFlushed, csr0lRead, t
 use Rattle.csr.specs.Control.{txStored, rxStored, csr0lSet, txcsrlSet, rxcsrlSet}
 use Rattle.register_file.proofs.Sides.{side-seen, set-keeps, keeps, keeps-length}
 use Rattle.register_file.proofs.AsWritten.{zero-in, zero-out, zero-other, flush-in, flush-out, flush-other, zero-keeps, zero-length, flush-keeps, flush-length}
-use Rattle.store_rules.specs.Stores.{Log, noted, writeFaddr, writePower, writeIndex, writeCsr0l, flushCsr0h, writeTxcsrl, writeRxcsrl, writeIso, writeMaxp, writeIntrusbe, writeIntre, writePacket, modifyCsr0l, modifyTxcsrl, modifyRxcsrl, modifyIntre}
+use Rattle.store_rules.specs.Stores.{Log, listing, writeFaddr, writePower, writeIndex, writeCsr0l, flushCsr0h, writeTxcsrl, writeRxcsrl, writeIso, writeMaxp, writeIntrusbe, writeIntre, writePacket, modifyCsr0l, modifyTxcsrl, modifyRxcsrl, modifyIntre}
 use Rattle.store_list.specs.Stores.{FIFO, INDEX, listed}
 use Rattle.store_rules.proofs.Own.{own-seen, own-keeps, own-length}
 use Rattle.store_rules.specs.Promise.{Store, faddr, power, index, csr0l, csr0h, txcsrl, rxcsrl, iso, maxp, intrusbe, intre, packet, does, leaves, writes, selects, addresses, Kept}
@@ -48,11 +48,11 @@ flush-seen r e d six = go d (ℕ-discrete e 0)
 -- a packet written: nothing where it is empty
 packet-seen : (n : ℕ) (g : Log) (e : ℕ) (d : Direction) → Whole (g .regs) → file.index (g .regs) < 6
     → sideAt (writePacket n g .regs) e d ≡ leaves (packet n) (file.index (g .regs)) e d (sideAt (g .regs) e d)
-unfolding writePacket noted
+unfolding writePacket listing
 packet-seen n g e d six h = go (eqb n 0)
   where
     go : (b : Bool)
-        → sideAt (cond b g (noted FIFO n (withChosen (g .regs) In (withLen n (chosen (g .regs) In))) (g .list) (g .count)) .regs) e d
+        → sideAt (cond b g (listing FIFO n (withChosen (g .regs) In (withLen n (chosen (g .regs) In))) (g .list) (g .count)) .regs) e d
         ≡ cond b (sideAt (g .regs) e d) (cond (eqb e (file.index (g .regs))) (towards In d (withLen n) (sideAt (g .regs) e d)) (sideAt (g .regs) e d))
     go true = refl
     go false = side-seen (g .regs) (file.index (g .regs)) In (withLen n) e d six h
@@ -60,7 +60,7 @@ packet-seen n g e d six h = go (eqb n 0)
 -- every store leaves every side as the account says: other endpoints, other directions, ready bits, waiting lengths, SendStall
 pub sides : (o : Store) (g : Log) (e : ℕ) (d : Direction) → Whole (g .regs) → file.index (g .regs) < 6
     → sideAt (does o g .regs) e d ≡ leaves o (file.index (g .regs)) e d (sideAt (g .regs) e d)
-unfolding noted writeFaddr writePower writeIndex writeCsr0l flushCsr0h writeTxcsrl writeRxcsrl writeIso writeMaxp writeIntrusbe writeIntre withFaddr withPower withIndex withIntrusbe withEnabled
+unfolding listing writeFaddr writePower writeIndex writeCsr0l flushCsr0h writeTxcsrl writeRxcsrl writeIso writeMaxp writeIntrusbe writeIntre withFaddr withPower withIndex withIntrusbe withEnabled
 sides (faddr a) g e d six h = set-keeps (g .regs) 1 a e d (omega arith)
 sides power g e d six h = set-keeps (g .regs) 2 1 e d (omega arith)
 sides (index f) g e d six h = set-keeps (g .regs) 0 f e d (omega arith)
@@ -77,15 +77,15 @@ sides (packet n) g e d six h = packet-seen n g e d six h
 
 -- every number before SetupEnd's
 packet-number : (n : ℕ) (g : Log) (q : ℕ) → q < 9 → getD (writePacket n g .regs) q 0 ≡ getD (g .regs) q 0
-unfolding writePacket noted
+unfolding writePacket listing
 packet-number n g q h = go (eqb n 0)
   where
-    go : (b : Bool) → getD (cond b g (noted FIFO n (withChosen (g .regs) In (withLen n (chosen (g .regs) In))) (g .list) (g .count)) .regs) q 0 ≡ getD (g .regs) q 0
+    go : (b : Bool) → getD (cond b g (listing FIFO n (withChosen (g .regs) In (withLen n (chosen (g .regs) In))) (g .list) (g .count)) .regs) q 0 ≡ getD (g .regs) q 0
     go true = refl
     go false = keeps (g .regs) (file.index (g .regs)) In (withLen n (chosen (g .regs) In)) q (omega arith)
 
 pub number : (o : Store) (g : Log) (q : ℕ) → Whole (g .regs) → q < 9 → getD (does o g .regs) q 0 ≡ writes o q (getD (g .regs) q 0)
-unfolding noted writeFaddr writePower writeIndex writeCsr0l flushCsr0h writeTxcsrl writeRxcsrl writeIso writeMaxp writeIntrusbe writeIntre withFaddr withPower withIndex withIntrusbe withEnabled
+unfolding listing writeFaddr writePower writeIndex writeCsr0l flushCsr0h writeTxcsrl writeRxcsrl writeIso writeMaxp writeIntrusbe writeIntre withFaddr withPower withIndex withIntrusbe withEnabled
 number (faddr a) g q six h = getD-set (g .regs) 1 q a 0 (omega arith)
 number power g q six h = getD-set (g .regs) 2 q 1 0 (omega arith)
 number (index e) g q six h = getD-set (g .regs) 0 q e 0 (omega arith)
@@ -102,15 +102,15 @@ number (packet n) g q six h = packet-number n g q h
 
 -- how many numbers there are
 packet-length : (n : ℕ) (g : Log) → length (writePacket n g .regs) ≡ length (g .regs)
-unfolding writePacket noted
+unfolding writePacket listing
 packet-length n g = go (eqb n 0)
   where
-    go : (b : Bool) → length (cond b g (noted FIFO n (withChosen (g .regs) In (withLen n (chosen (g .regs) In))) (g .list) (g .count)) .regs) ≡ length (g .regs)
+    go : (b : Bool) → length (cond b g (listing FIFO n (withChosen (g .regs) In (withLen n (chosen (g .regs) In))) (g .list) (g .count)) .regs) ≡ length (g .regs)
     go true = refl
     go false = keeps-length (g .regs) (file.index (g .regs)) In (withLen n (chosen (g .regs) In))
 
 pub whole : (o : Store) (g : Log) → length (does o g .regs) ≡ length (g .regs)
-unfolding noted writeFaddr writePower writeIndex writeCsr0l flushCsr0h writeTxcsrl writeRxcsrl writeIso writeMaxp writeIntrusbe writeIntre withFaddr withPower withIndex withIntrusbe withEnabled
+unfolding listing writeFaddr writePower writeIndex writeCsr0l flushCsr0h writeTxcsrl writeRxcsrl writeIso writeMaxp writeIntrusbe writeIntre withFaddr withPower withIndex withIntrusbe withEnabled
 whole (faddr a) g = length-set (g .regs) 1 a
 whole power g = length-set (g .regs) 2 1
 whole (index e) g = length-set (g .regs) 0 e
@@ -158,7 +158,7 @@ rest o g six = record {
 
 -- an index store selects, and that is all
 pub index-selects : (e : ℕ) (g : Log) → writeIndex e g .regs ≡ withIndex (g .regs) e
-unfolding writeIndex noted
+unfolding writeIndex listing
 index-selects e g = refl
 
 pub index-lists : (e : ℕ) (g : Log) → (writeIndex e g .list ≡ listed (g .list) (g .count) INDEX e e) × (writeIndex e g .count ≡ g .count + 1)
@@ -188,6 +188,6 @@ unfolding writePacket
 packet-none n g p = rw (eq-eqb n 0 p)
 
 pub packet-some : (n : ℕ) (g : Log) → (n ≡ 0 → ⊥)
-    → writePacket n g ≡ noted FIFO n (withChosen (g .regs) In (withLen n (chosen (g .regs) In))) (g .list) (g .count)
+    → writePacket n g ≡ listing FIFO n (withChosen (g .regs) In (withLen n (chosen (g .regs) In))) (g .list) (g .count)
 unfolding writePacket
 packet-some n g p = rw (ne-eqb n 0 p)

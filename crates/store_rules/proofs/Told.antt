@@ -1,72 +1,43 @@
 -- Two stores that list the same register and the same value are one store. Assumes nothing.
-use Prim.Native.Nat.{ℕ, _+_, _*_, _/_, _%_}
+use Prim.Native.Nat.{ℕ}
 use mathlib.Core.Path.{_≡_, refl, sym, ap, _∙_}
-use mathlib.Core.Bool.{Bool, true, false, cond}
 use mathlib.Core.List.{List, [], _∷_}
-use native.Mathlib.Omega.{arith}
-use borrow.Author.Tests.{eq-eqb, ne-eqb}
-use lib.Dec.{eqb}
 use lib.ListN.{getD}
 use Rattle.board.specs.declared.Direction.the-variants.{Out, In}
 use Rattle.csr.specs.declared.Csr0l.{Csr0l}
 use Rattle.csr.specs.declared.Txcsrl.{Txcsrl}
 use Rattle.csr.specs.declared.Rxcsrl.{Rxcsrl}
-use Rattle.csr.specs.Control.{csr0lNumber, txcsrlNumber, rxcsrlNumber, csr0lBits, txcsrlBits, rxcsrlBits, fromBits}
+use Rattle.csr.specs.Control.{csr0lNumber, txcsrlNumber, rxcsrlNumber, csr0lBits, txcsrlBits, rxcsrlBits}
 use Rattle.csr.proofs.AsWritten.{csr0l-places, txcsrl-places, rxcsrl-places}
 use Rattle.store_rules.specs.Promise.{Store, faddr, power, index, csr0l, csr0h, txcsrl, rxcsrl, iso, maxp, intrusbe, intre, packet, register, value}
 use Rattle.store_rules.specs.Told.{Told}
+use Rattle.csr.proofs.Bits.{bit-from}
+use Rattle.laws.specs.Words.{bit}
 
--- the lowest bit of a number, and the number without it
-odd : ℕ → Bool
-odd n = eqb (n % 2) 1
+-- a control register by its number
+abbrev csr0lFrom : ℕ → Csr0l
+csr0lFrom v = csr0lBits (bit v 0) (bit v 1) (bit v 2) (bit v 3) (bit v 4) (bit v 5) (bit v 6) (bit v 7)
 
-first : (b : Bool) (n : ℕ) → odd (cond b 1 0 + 2 * n) ≡ b
-unfolding odd
-first true n = eq-eqb ((1 + 2 * n) % 2) 1 (omega arith)
-first false n = ne-eqb ((0 + 2 * n) % 2) 1 (λ (p : (0 + 2 * n) % 2 ≡ 1). omega (arith, p))
+abbrev txcsrlFrom : ℕ → Txcsrl
+txcsrlFrom v = txcsrlBits (bit v 0) (bit v 1) (bit v 2) (bit v 3) (bit v 4) (bit v 5) (bit v 6)
 
-half : (b : Bool) (n : ℕ) → (cond b 1 0 + 2 * n) / 2 ≡ n
-half true n = omega arith
-half false n = omega arith
+abbrev rxcsrlFrom : ℕ → Rxcsrl
+rxcsrlFrom v = rxcsrlBits (bit v 0) (bit v 1) (bit v 2) (bit v 3) (bit v 4) (bit v 5) (bit v 6) (bit v 7)
 
--- the first k bits of a number
-bits : ℕ → List Bool → List Bool
-bits n [] = []
-bits n (x ∷ xs) = odd n ∷ bits (n / 2) xs
+csr0l-back : (w : Csr0l) → csr0lFrom (csr0lNumber w) ≡ w
+csr0l-back w =
+    let at = bit-from _ (csr0l-places w) in
+    λ t. csr0lBits (at 0 t) (at 1 t) (at 2 t) (at 3 t) (at 4 t) (at 5 t) (at 6 t) (at 7 t)
 
--- are those that it was made of
-back : (xs : List Bool) → bits (fromBits xs) xs ≡ xs
-unfolding bits fromBits
-back [] = refl
-back (x ∷ xs) = (λ i. first x (fromBits xs) i ∷ bits (half x (fromBits xs) i) xs) ∙ ap (λ (l : List Bool). x ∷ l) (back xs)
+txcsrl-back : (w : Txcsrl) → txcsrlFrom (txcsrlNumber w) ≡ w
+txcsrl-back w =
+    let at = bit-from _ (txcsrl-places w) in
+    λ t. txcsrlBits (at 0 t) (at 1 t) (at 2 t) (at 3 t) (at 4 t) (at 5 t) (at 6 t)
 
--- a control register by a list of its bits
-abbrev csr0lFrom : List Bool → Csr0l
-csr0lFrom l = csr0lBits (getD l 0 false) (getD l 1 false) (getD l 2 false) (getD l 3 false) (getD l 4 false) (getD l 5 false) (getD l 6 false) (getD l 7 false)
-
-abbrev txcsrlFrom : List Bool → Txcsrl
-txcsrlFrom l = txcsrlBits (getD l 0 false) (getD l 1 false) (getD l 2 false) (getD l 3 false) (getD l 4 false) (getD l 5 false) (getD l 6 false)
-
-abbrev rxcsrlFrom : List Bool → Rxcsrl
-rxcsrlFrom l = rxcsrlBits (getD l 0 false) (getD l 1 false) (getD l 2 false) (getD l 3 false) (getD l 4 false) (getD l 5 false) (getD l 6 false) (getD l 7 false)
-
-abbrev seven : List Bool
-seven = false ∷ false ∷ false ∷ false ∷ false ∷ false ∷ false ∷ []
-
-abbrev eight : List Bool
-eight = false ∷ seven
-
-csr0l-back : (w : Csr0l) → csr0lFrom (bits (csr0lNumber w) eight) ≡ w
-unfolding bits
-csr0l-back w = ap (λ (n : ℕ). csr0lFrom (bits n eight)) (csr0l-places w) ∙ ap csr0lFrom (back (w .«rx_pkt_rdy» ∷ w .«tx_pkt_rdy» ∷ w .«sent_stall» ∷ w .«data_end» ∷ w .«setup_end» ∷ w .«send_stall» ∷ w .«serviced_rx_pkt_rdy» ∷ w .«serviced_setup_end» ∷ []))
-
-txcsrl-back : (w : Txcsrl) → txcsrlFrom (bits (txcsrlNumber w) seven) ≡ w
-unfolding bits
-txcsrl-back w = ap (λ (n : ℕ). txcsrlFrom (bits n seven)) (txcsrl-places w) ∙ ap txcsrlFrom (back (w .«tx_pkt_rdy» ∷ w .«fifo_not_empty» ∷ w .«under_run» ∷ w .«flush_fifo» ∷ w .«send_stall» ∷ w .«sent_stall» ∷ w .«clr_data_tog» ∷ []))
-
-rxcsrl-back : (w : Rxcsrl) → rxcsrlFrom (bits (rxcsrlNumber w) eight) ≡ w
-unfolding bits
-rxcsrl-back w = ap (λ (n : ℕ). rxcsrlFrom (bits n eight)) (rxcsrl-places w) ∙ ap rxcsrlFrom (back (w .«rx_pkt_rdy» ∷ w .«fifo_full» ∷ w .«over_run» ∷ w .«data_error» ∷ w .«flush_fifo» ∷ w .«send_stall» ∷ w .«sent_stall» ∷ w .«clr_data_tog» ∷ []))
+rxcsrl-back : (w : Rxcsrl) → rxcsrlFrom (rxcsrlNumber w) ≡ w
+rxcsrl-back w =
+    let at = bit-from _ (rxcsrl-places w) in
+    λ t. rxcsrlBits (at 0 t) (at 1 t) (at 2 t) (at 3 t) (at 4 t) (at 5 t) (at 6 t) (at 7 t)
 
 -- the store of a register's number and a value
 stores : ℕ → List Store
@@ -75,10 +46,10 @@ stores v =
     ∷ faddr v
     ∷ power
     ∷ index v
-    ∷ csr0l (csr0lFrom (bits v eight))
+    ∷ csr0l (csr0lFrom v)
     ∷ csr0h
-    ∷ txcsrl (txcsrlFrom (bits v seven))
-    ∷ rxcsrl (rxcsrlFrom (bits v eight))
+    ∷ txcsrl (txcsrlFrom v)
+    ∷ rxcsrl (rxcsrlFrom v)
     ∷ iso In
     ∷ iso Out
     ∷ maxp In v

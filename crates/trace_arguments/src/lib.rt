@@ -10,7 +10,8 @@ use trace_rules::Two;
 ghost use mathlib.Core.Path.{_≡_};
 ghost use Prim.Native.Nat.{_≤_};
 ghost use lib.ListN.{length};
-ghost use Rattle.trace_rules.specs.Arguments.{inRange, argAt, twoAt, directionOf, wantedOf, typeOf, busOf, flagOf};
+ghost use Rattle.endpoints.specs.Endpoints.{typeOf};
+ghost use Rattle.trace_rules.specs.Arguments.{inRange, argAt, twoAt, directionOf, wantedOf, busOf, flagOf};
 ghost use Rattle.trace_rules.specs.Packets.{heldIn, packetAt};
 
 fn in_range(n: Number, most: u16) -> Arg

@@ -16,7 +16,8 @@ use register_file::Regs;
 ghost use mathlib.Core.Path.{_≡_};
 ghost use Prim.Native.Nat.{_+_, _≤_, _<_};
 ghost use lib.ListN.{getD};
-ghost use Rattle.detail_rules.specs.Given.{numbersOf, longAt, wordAt, truthAt, withChip, zeroTx, zeroRx, withZero, baseOf, sideFrom, withSides, fileOf, typeOf, dataOf, datasOf, stateOf, recordOf};
+ghost use Rattle.endpoints.specs.Endpoints.{typeOf};
+ghost use Rattle.detail_rules.specs.Given.{numbersOf, longAt, wordAt, truthAt, withChip, zeroTx, zeroRx, withZero, baseOf, sideFrom, withSides, fileOf, dataOf, datasOf, stateOf, recordOf};
 
 fn wide(x: u8) -> u32
     ensures { λ r. ⌜ (r ≡ x) × (r < 256) ⌝ }

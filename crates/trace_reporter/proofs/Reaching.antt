@@ -3,8 +3,7 @@
 use Prim.Native.Nat.{ℕ, _+_, _*_, _≤_, _<_}
 use native.Mathlib.Omega.{arith}
 use native.Mathlib.Numerals.{add-one}
-use mathlib.Core.Path.{_≡_, refl, sym, ap, subst, _∙_}
-use mathlib.Core.Bool.{Bool, true, false, not}
+use mathlib.Core.Path.{_≡_, sym, ap, subst, _∙_}
 use mathlib.Core.List.{List, [], _++_, append-nil}
 use lib.ListN.{length, take, replicate, length-append}
 use lib.Seq.{length-take-le}
@@ -94,8 +93,3 @@ too-long-here x s {done = done} w e h =
 
 pub fresh-whole : (k : Record) (s : List ℕ) {r : ℕ} → k ≡ freshRecord Display → r ≡ length (reportFor (beginning k (replicate 1664 0)) s) → r ≡ length (reportOf (freshRecord Display) s)
 fresh-whole k s e p = p ∙ ap (λ (j : Record). length (reportFor (beginning j (replicate 1664 0)) s)) e ∙ ap (λ (x : State). length (reportFor x s)) fresh-begins
-
--- the lines under an entry are asked for
-pub asked : (b : Bool) → not b ≡ false → b ≡ true
-asked true e = refl
-asked false e = let z : _≡_ {A = ℕ} 0 1 = cc in absurd (omega arith)

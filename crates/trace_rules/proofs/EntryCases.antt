@@ -22,9 +22,10 @@ use Rattle.trace_rules.specs.declared.Held.the-variants.{Bytes, Cut}
 use Rattle.trace_rules.specs.declared.Entry.the-variants.{Allocate, Address, Write, Read, Stall, IsStalled, Arrival, Collect, Bus, Underrun, Overrun}
 use Rattle.trace_rules.specs.declared.Parsed.{Parsed}
 use Rattle.trace_rules.specs.declared.Parsed.the-variants.{Found, End, Bad}
-use Rattle.trace_rules.specs.Arguments.{argAt, twoAt, directionOf, wantedOf, typeOf, busOf, flagOf}
+use Rattle.trace_rules.specs.Arguments.{argAt, twoAt, directionOf, wantedOf, busOf, flagOf}
 use Rattle.trace_rules.specs.Entries.{allocateAt, addressAt, writeAt, readAt, stallAt, isStalledAt, arrivalAt, collectAt, busAt, underrunAt, overrunAt, codeAt, entryAt}
 use Rattle.trace_rules.specs.Packets.{packetAt}
+use Rattle.endpoints.specs.Endpoints.{typeOf}
 
 -- the entries, by their codes
 module _ (s : List ℕ) (at : ℕ) (x : Two) (e : x ≡ twoAt s at 1 256) where

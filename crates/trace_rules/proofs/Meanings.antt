@@ -4,10 +4,9 @@ use Prim.Native.Nat.{ℕ, _-_}
 use mathlib.Core.Path.{_≡_}
 use borrow.Author.Tests.{eq-eqb, ne-eqb}
 use Rattle.board.specs.declared.Direction.the-variants.{Out, In}
-use Rattle.endpoints.specs.declared.EndpointType.the-variants.{Control, Isochronous, Bulk, Interrupt}
 use Rattle.endpoints.specs.declared.Wanted.the-variants.{Any, Number as Want}
 use Rattle.event_rules.specs.declared.BusEvent.the-variants.{Reset, Suspend, Resume}
-use Rattle.trace_rules.specs.Arguments.{directionOf, wantedOf, typeOf, busOf}
+use Rattle.trace_rules.specs.Arguments.{directionOf, wantedOf, busOf}
 
 module _ (n : ℕ) where
   pub is-out : n ≡ 0 → Out ≡ directionOf n
@@ -21,18 +20,6 @@ module _ (n : ℕ) where
 
   pub is-wanted : (n ≡ 0 → ⊥) → Want (n - 1) ≡ wantedOf n
   is-wanted e = rw (ne-eqb n 0 e)
-
-  pub is-control : n ≡ 0 → Control ≡ typeOf n
-  is-control e = rw e
-
-  pub is-isochronous : n ≡ 1 → Isochronous ≡ typeOf n
-  is-isochronous e = rw e
-
-  pub is-bulk : n ≡ 2 → Bulk ≡ typeOf n
-  is-bulk e = rw e
-
-  pub is-interrupt : (n ≡ 0 → ⊥) → (n ≡ 1 → ⊥) → (n ≡ 2 → ⊥) → Interrupt ≡ typeOf n
-  is-interrupt z o t = rw (ne-eqb n 0 z, ne-eqb n 1 o, ne-eqb n 2 t)
 
   pub is-reset : n ≡ 0 → Reset ≡ busOf n
   is-reset e = rw e

@@ -10,8 +10,6 @@ use Rattle.trace_rules.specs.declared.Number.the-variants.{Value, Bad}
 use Rattle.trace_rules.specs.Groups.{numberAt}
 use Rattle.board.specs.declared.Direction.{Direction}
 use Rattle.board.specs.declared.Direction.the-variants.{Out, In}
-use Rattle.endpoints.specs.declared.EndpointType.{EndpointType}
-use Rattle.endpoints.specs.declared.EndpointType.the-variants.{Control, Isochronous, Bulk, Interrupt}
 use Rattle.endpoints.specs.declared.Wanted.{Wanted}
 use Rattle.endpoints.specs.declared.Wanted.the-variants.{Any, Number as Want}
 use Rattle.event_rules.specs.declared.BusEvent.{BusEvent}
@@ -48,10 +46,6 @@ directionOf n = cond (eqb n 0) Out In
 -- "0 or wanted+1"
 abbrev pub wantedOf : ℕ → Wanted
 wantedOf n = cond (eqb n 0) Any (Want (n - 1))
-
--- "type 0 control 1 isochronous 2 bulk 3 interrupt"
-abbrev pub typeOf : ℕ → EndpointType
-typeOf n = cond (eqb n 0) Control (cond (eqb n 1) Isochronous (cond (eqb n 2) Bulk Interrupt))
 
 -- "bus (0 reset 1 suspend 2 resume)"
 abbrev pub busOf : ℕ → BusEvent

@@ -18,8 +18,9 @@ use Rattle.trace_rules.specs.declared.Entry.{Entry}
 use Rattle.trace_rules.specs.declared.Entry.the-variants.{Allocate, Init, Reset, Address, Write, Read, Stall, IsStalled, Poll, Interrupt, Enable, Arrival, Collect, Bus, SetupEnd, Underrun, Overrun}
 use Rattle.trace_rules.specs.declared.Parsed.{Parsed}
 use Rattle.trace_rules.specs.declared.Parsed.the-variants.{Found, End, Bad}
-use Rattle.trace_rules.specs.Arguments.{argAt, twoAt, directionOf, wantedOf, typeOf, busOf, flagOf}
+use Rattle.trace_rules.specs.Arguments.{argAt, twoAt, directionOf, wantedOf, busOf, flagOf}
 use Rattle.trace_rules.specs.Packets.{packetAt}
+use Rattle.endpoints.specs.Endpoints.{typeOf}
 
 -- what follows from arguments, or bad where there are none
 abbrev pub withArg : (ℕ → ℕ → Parsed) → Arg → Parsed

@@ -7,27 +7,19 @@ use mathlib.Core.Logic.{_↔_}
 use mathlib.Core.List.{List}
 use native.Mathlib.Omega.{arith}
 use lib.ListN.{length}
-use Rattle.board.specs.declared.Board.{Board}
-use Rattle.store_rules.specs.Stores.{Log, log}
-use Rattle.control_state.specs.declared.ControlState.{ControlState}
-use Rattle.record.specs.declared.Flags.{Flags}
+use Rattle.store_rules.specs.Stores.{log}
 use Rattle.record.specs.declared.Record.{Record}
 use Rattle.record.specs.declared.Refusal.{Refusal}
 use Rattle.record.specs.declared.Refusal.the-variants.{WouldBlock}
 use Rattle.transfer_rules.specs.declared.Verdict.{Verdict}
 use Rattle.transfer_rules.specs.declared.Verdict.the-variants as verdict
-use Rattle.transfer_rules.specs.Peek.{rxCount, blocked, verdictNumber}
+use Rattle.transfer_rules.specs.Peek.{blocked, verdictNumber}
 use Rattle.transfer_rules.specs.declared.ReadAnswer.the-variants.{Done, Refused}
 use Rattle.transfer_rules.specs.ReadZero.{readNumber, rxSize}
 use Rattle.transfer_rules.specs.ReadTests.{waiting, tests}
 use Rattle.transfer_rules.specs.Read.{ReadOutcome, outcome, readDone, refused, readBy, readIn, readCall}
 use Rattle.transfer_rules.proofs.ReadCases.{ReadCase}
 use Rattle.transfer_rules.proofs.ReadVerdicts.{meets, decides, is-blocked}
-
--- "returns the packet's length"
-pub read-done : (b : Board) (c : ControlState) (f : Flags) (size ep : ℕ) (x y : List ℕ) (g : Log) → readDone b c f size ep x y g .answer ≡ Done (rxCount ep (g .regs))
-unfolding readDone
-read-done b c f size ep x y g = refl
 
 module _ (k : Record) (ep : ℕ) (b f l : List ℕ) where
   -- the call, if its tests came to v

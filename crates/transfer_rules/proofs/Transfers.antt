@@ -29,12 +29,11 @@ use Rattle.store_list.specs.Stores.{listed, INDEX, TXCSRL, RXCSRL}
 use Rattle.store_rules.specs.Stores.{Log, log, writeIndex, writePacket, modifyTxcsrl, modifyRxcsrl}
 use Rattle.store_rules.specs.Promise.{txcsrl, rxcsrl, packet}
 use Rattle.store_rules.proofs.Promises.{modify-txcsrl, modify-rxcsrl, packet-none}
-use Rattle.common_rules.specs.Kept.{SameBits}
 use Rattle.common_rules.proofs.Stands.{Stands, begin, of-txcsrl, of-rxcsrl, of-packet, next, as-named}
 use Rattle.record.specs.declared.Record.{Record}
 use Rattle.record.specs.Record.{areaIn, areaOf, endpointsOf}
 use Rattle.record.specs.Bytes.{Fills}
-use Rattle.record.proofs.Areas.{area-within}
+use Rattle.record.proofs.Areas.{area-within, below-six}
 use Rattle.record.proofs.Bytes.{pasted-fills}
 use Rattle.record.proofs.Passing.{record-is-sound, waiting-fits}
 use Rattle.transfer_rules.specs.declared.Verdict.{Verdict}
@@ -53,12 +52,12 @@ use Rattle.transfer_rules.specs.Read as read
 use Rattle.transfer_rules.specs.Read.{ReadOutcome, copied, readOther, got, readCall}
 use Rattle.transfer_rules.proofs.ReadCases as read-cases
 use Rattle.transfer_rules.specs.Transfers.{sendValue, takeValue, writeList, writeCount, Writes, Takes, Copies}
-use Rattle.transfer_rules.proofs.Endings.{below-six}
 use Rattle.transfer_rules.proofs.Lent.{lent-enough, Admitted}
 use Rattle.transfer_rules.proofs.WriteVerdicts as write-verdicts
 use Rattle.transfer_rules.proofs.WriteAnswers as write-answers
 use Rattle.transfer_rules.proofs.ReadVerdicts as read-verdicts
 use Rattle.transfer_rules.proofs.ReadAnswers as read-answers
+use Rattle.csr.specs.Kept.{SameBits}
 
 -- the two values
 ready-number : (s : Side) → s .ready ≡ false → txcsrlNumber (txcsrlSet TxPktRdy (txcsrlOf s)) ≡ sendValue s
@@ -300,16 +299,11 @@ module _ (k : Record) (e : ℕ) (buf x l : List ℕ) where
       unfolding endpointsOf
       below = below-six (k .regs .board) e (readable .admitted .there)
 
-      drop-bits : SameBits received (dropped true received)
-      drop-bits =
-          let r = dropped-rest true received in
-          record { missed = r .missed; stall = r .stall; stalled = r .stalled; iso = r .iso; maxp = r .maxp }
-
       taken-log : {h : Log} → Stands from e Out h (λ (d : Direction). enabledOf d (k .regs .words)) (dropped true received) (listed (listed l 0 INDEX e e) 1 RXCSRL e (takeValue received)) 2 → Takes k e l (gives h)
       taken-log s = record {
         ready = ap (λ (t : Side). t .ready) (s .here) ∙ drops received .0;
         length = ap (λ (t : Side). t .len) (s .here) ∙ drops received .1;
-        bits = subst (SameBits received) (sym (s .here)) drop-bits;
+        bits = subst (SameBits received) (sym (s .here)) (dropped-rest true received);
         others = s .elsewhere;
         selected = s .selected;
         enabled = s .enabled;

@@ -14,7 +14,6 @@ use Rattle.transfer_rules.specs.Peek.{shortIn, short, txPktRdy, testsBy,
 use Rattle.transfer_rules.specs.declared.Verdict.{Verdict}
 use Rattle.transfer_rules.specs.declared.Verdict.the-variants.{Clear, Blocked}
 use Rattle.transfer_rules.proofs.Lent.{enough}
-use Rattle.transfer_rules.proofs.Endings.{below-six}
 use Rattle.control_state.specs.declared.ControlState.{ControlState}
 use Rattle.record.specs.declared.Flags.{Flags}
 use Rattle.record.specs.declared.Record.{Record}
@@ -23,6 +22,7 @@ use Rattle.record.specs.Record.{areaIn, needIn, endpointsIn, endpointsOf, recor
 use Rattle.transfer_rules.specs.WriteTests as write
 use Rattle.transfer_rules.specs.WriteTests.{ownTests, ownTestsAt, testsIn, tests}
 use Rattle.transfer_rules.proofs.WriteCases.{uncollected, tooLong, notWritable, WriteCase, done, blocks, beyond, long, untaken, little, unsound}
+use Rattle.record.proofs.Areas.{below-six}
 
 module _ (k : Record) (ep n f l : ℕ) where
   -- the tests, one beside the other, as the rows name them

@@ -11,11 +11,12 @@ use Rattle.board.specs.declared.Direction.the-variants.{Out, In}
 use Rattle.csr.specs.declared.Side.{Side}
 use Rattle.register_file.specs.Registers.{sideAt, index, enabledOf, setupend}
 use Rattle.store_list.specs.Stores.{listed, INDEX, TXCSRL, RXCSRL, FIFO}
-use Rattle.common_rules.specs.Kept.{SameBits, SameRest}
+use Rattle.common_rules.specs.Kept.{SameRest}
 use Rattle.record.specs.declared.Record.{Record}
 use Rattle.record.specs.Record.{areaOf}
 use Rattle.transfer_rules.specs.Write.{WriteOutcome}
 use Rattle.transfer_rules.specs.Read.{ReadOutcome}
+use Rattle.csr.specs.Kept.{SameBits}
 
 -- all of the record but its registers
 pub record SameParts (k j : Record) : Type 0 where

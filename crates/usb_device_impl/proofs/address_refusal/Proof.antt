@@ -1,5 +1,6 @@
 -- `usb_device_impl::address_refusal` meets its contract. Assumes nothing.
-use Rattle.call_rules.proofs.Calls.{address-refused, address-fits, address-over, never}
+use Rattle.call_rules.proofs.Calls.{address-refused, address-fits, address-over}
+use Rattle.record.proofs.Rows.{unlike as never}
 use borrow.Author.Needs.{needs}
 use Rattle.usb_device_impl.proofs.address_refusal.Statement.{statement}
 use Rattle.usb_device_impl.proofs.address_refusal.Tie as tie
