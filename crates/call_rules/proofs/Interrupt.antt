@@ -12,8 +12,8 @@ use Rattle.record.specs.declared.Flags.{Flags}
 use Rattle.record.specs.declared.Record.{Record}
 use Rattle.record.specs.Record.{passes, recordSound, endpointsIn, endpointsOf}
 use Rattle.call_rules.specs.declared.Snapshot.{Snapshot}
-use Rattle.call_rules.specs.declared.InterruptAnswer.{InterruptAnswer}
-use Rattle.call_rules.specs.declared.InterruptCalled.{InterruptCalled}
+use Rattle.record.specs.declared.Reply.{Reply}
+use Rattle.record.specs.declared.Answered.{Answered}
 use Rattle.call_rules.specs.Interrupt.{snapshotOf, cleared, endpointTaken, endpointsTaken, taken, interrupted, answerBy, interruptBy, interruptCall}
 
 -- from the flags f on, of b endpoints, with the flags o when endpoint i comes: the walk over what is left, from here, is the whole
@@ -46,14 +46,14 @@ pub served-file : (r : File) {ok : Bool} {q : File} → ok ≡ true → q ≡ cl
 served-file r p q = rw p q
 
 -- the whole call, from the test and what was done by it
-pub answered : (k : Record) {ok : Bool} {w : File} {f : Flags} {a : InterruptAnswer} → ok ≡ passes (k .regs .board) (k .regs .words) (k .irq)
+pub answered : (k : Record) {ok : Bool} {w : File} {f : Flags} {a : Reply} → ok ≡ passes (k .regs .board) (k .regs .words) (k .irq)
     → f ≡ cond ok (taken (endpointsIn (k .regs .board)) (snapshotOf (k .regs .words)) (k .irq)) (k .irq)
     → w ≡ cond ok (cleared (k .regs .words)) (k .regs .words) → a ≡ answerBy ok
     → record { answer = a; «record» = record { regs = record { board = k .regs .board; words = w }; endpoints = k .endpoints; «control_state» = k .«control_state»; irq = f } } ≡ interruptCall k
 unfolding interruptCall interrupted recordSound endpointsOf
 answered k {ok} is flags file says = (λ i. made (says i) (file i) (flags i)) ∙ go ok is
   where
-    made : InterruptAnswer → File → Flags → InterruptCalled
+    made : Reply → File → Flags → Answered
     made a w f = record { answer = a; «record» = record { regs = record { board = k .regs .board; words = w }; endpoints = k .endpoints; «control_state» = k .«control_state»; irq = f } }
 
     go : (b : Bool) → b ≡ passes (k .regs .board) (k .regs .words) (k .irq)

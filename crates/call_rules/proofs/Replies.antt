@@ -13,11 +13,11 @@ use Rattle.record.specs.declared.Record.{Record}
 use Rattle.record.specs.declared.Refusal.{Refusal}
 use Rattle.record.specs.declared.Admission.{Admission}
 use Rattle.record.specs.declared.Admission.the-variants.{Clear, Refused}
-use Rattle.record.specs.Record.{admissionNumber, recordSound, endpointsOf, admissionBy}
+use Rattle.record.specs.Record.{admissionNumber, recordSound, endpointsOf, admissionBy, replyNumber}
 use Rattle.record.specs.Rows.{Row, Given}
 use Rattle.record.proofs.Rows.{exactly, none-left, tested, tells-under, tells-from, tells-over, tells-bad, first-all, first-lent}
-use Rattle.call_rules.specs.declared.Reply.the-variants as reply
-use Rattle.call_rules.specs.Calls.{CallOutcome, stored, unless, short, begun, beyond, addressEntry, busInitCall, enableCall, addressCall, forceResetCall, replyNumber}
+use Rattle.record.specs.declared.Reply.the-variants as reply
+use Rattle.call_rules.specs.Calls.{CallOutcome, stored, unless, short, begun, beyond, addressEntry, busInitCall, enableCall, addressCall, forceResetCall}
 use Rattle.call_rules.specs.Replies.{listRows, addressRows, endpointRows, Answers}
 
 -- a call that is refused is not done

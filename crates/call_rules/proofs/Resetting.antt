@@ -29,7 +29,7 @@ use Rattle.record.specs.declared.Admission.the-variants.{Clear, Refused}
 use Rattle.record.specs.Record.{recordSound, admissionBy, endpointsIn, endpointsOf}
 use Rattle.record.proofs.Rows.{none-refused}
 use Rattle.record.proofs.Passing.{record-is-sound}
-use Rattle.call_rules.specs.declared.Reply.the-variants as reply
+use Rattle.record.specs.declared.Reply.the-variants as reply
 use Rattle.call_rules.specs.Calls.{stored, unless, short, begun, idled}
 use Rattle.call_rules.specs.Reset.{txEnabled, rxEnabled, usedEnabled, enabledBelow, resetStores, resetCall}
 use Rattle.call_rules.specs.Resetting.{Resets}

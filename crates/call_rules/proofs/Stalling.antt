@@ -18,7 +18,7 @@ use Rattle.record.specs.declared.Admission.{Admission}
 use Rattle.record.specs.declared.Admission.the-variants.{Clear, Refused}
 use Rattle.record.specs.Record.{recordSound, admissionBy, endpointsOf}
 use Rattle.record.proofs.Rows.{none-refused}
-use Rattle.call_rules.specs.declared.Reply.the-variants as reply
+use Rattle.record.specs.declared.Reply.the-variants as reply
 use Rattle.call_rules.specs.Calls.{stored, unless, short, begun, idled, beyond}
 use Rattle.call_rules.specs.Stall.{epStall, afterStall, setStalledCall}
 use Rattle.call_rules.specs.Stalling.{SetStalled}

@@ -18,9 +18,9 @@ use Rattle.record.specs.declared.Refusal.{Refusal}
 use Rattle.record.specs.declared.Refusal.the-variants.{Unsupported, BadAddress}
 use Rattle.record.specs.declared.Admission.{Admission}
 use Rattle.record.specs.declared.Admission.the-variants.{Clear, Refused}
-use Rattle.record.specs.Record.{passes, recordSound, admissionBy, endpointsOf, listNeed, refusalNumber, withRegs, withControl}
-use Rattle.call_rules.specs.declared.Reply.{Reply}
-use Rattle.call_rules.specs.declared.Reply.the-variants as reply
+use Rattle.record.specs.Record.{passes, recordSound, admissionBy, endpointsOf, listNeed, withRegs, withControl}
+use Rattle.record.specs.declared.Reply.{Reply}
+use Rattle.record.specs.declared.Reply.the-variants as reply
 use Rattle.call_rules.specs.declared.Called.{Called}
 use Rattle.call_rules.specs.declared.Ran.{Ran}
 
@@ -83,11 +83,6 @@ beyond k e = leb (endpointsOf k) e
 -- `force_reset`, the trait's own: "always" reply 7
 abbrev pub forceResetCall : Reply
 forceResetCall = reply.Refused Unsupported
-
--- document 01's number of an answer, and its values
-abbrev pub replyNumber : Reply → ℕ
-replyNumber reply.Done = 0
-replyNumber (reply.Refused x) = refusalNumber x
 
 -- The same by the parts of the record that a call looks at and changes, since the code takes the record apart once.
 -- What is left of them: what runs below the call answers, the registers, the lent list.

@@ -12,11 +12,11 @@ use Rattle.laws.specs.Lists.{numbers}
 use Rattle.record.specs.declared.Flags.{Flags}
 use Rattle.record.specs.declared.Refusal.the-variants.{BadRecord}
 use Rattle.record.specs.declared.Record.{Record}
-use Rattle.record.specs.Record.{recordSound, endpointsOf, refusalNumber}
+use Rattle.record.specs.Record.{recordSound, endpointsOf}
 use Rattle.call_rules.specs.declared.Snapshot.{Snapshot}
-use Rattle.call_rules.specs.declared.InterruptAnswer.{InterruptAnswer}
-use Rattle.call_rules.specs.declared.InterruptAnswer.the-variants.{Done, Refused}
-use Rattle.call_rules.specs.declared.InterruptCalled.{InterruptCalled}
+use Rattle.record.specs.declared.Reply.{Reply}
+use Rattle.record.specs.declared.Reply.the-variants.{Done, Refused}
+use Rattle.record.specs.declared.Answered.{Answered}
 
 -- `intrusb().read()`, `intrtx().read()`, `intrrx().read()`, in this order
 unfoldable pub snapshotOf : File → Snapshot
@@ -70,19 +70,14 @@ interrupted k = record {
 }
 
 -- what is answered: 16 for a record that does not pass
-abbrev pub answerBy : Bool → InterruptAnswer
+abbrev pub answerBy : Bool → Reply
 answerBy true = Done
 answerBy false = Refused BadRecord
 
-abbrev pub interruptBy : Bool → Record → InterruptCalled
+abbrev pub interruptBy : Bool → Record → Answered
 interruptBy true k = record { answer = Done; «record» = interrupted k }
 interruptBy false k = record { answer = Refused BadRecord; «record» = k }
 
 -- the whole outcome: refused with 16 alone
-unfoldable pub interruptCall : Record → InterruptCalled
+unfoldable pub interruptCall : Record → Answered
 interruptCall k = interruptBy (recordSound k) k
-
--- document 01's reply
-abbrev pub interruptNumber : InterruptAnswer → ℕ
-interruptNumber Done = 0
-interruptNumber (Refused x) = refusalNumber x

@@ -5,9 +5,9 @@ use mathlib.Core.Path.{_≡_}
 use mathlib.Core.List.{List, [], _∷_}
 use lib.ListN.{length}
 use Rattle.record.specs.declared.Record.{Record}
-use Rattle.record.specs.Record.{endpointsOf, SoundRecord}
+use Rattle.record.specs.Record.{endpointsOf, SoundRecord, replyNumber}
 use Rattle.record.specs.Rows.{Row, row, Replies}
-use Rattle.call_rules.specs.Calls.{CallOutcome, replyNumber}
+use Rattle.call_rules.specs.Calls.{CallOutcome}
 
 -- the rows of each call, in document 01's order, "15, 16, 8, then .. address 14": "list under 384 numbers", a record that does not pass,
 -- "endpoint 6 or more" (the board's own last endpoint being the highest), "address over 127"

@@ -6,12 +6,7 @@ use endpoints::EndpointAllocError;
 use endpoints::EndpointData;
 use record::Record;
 use record::Refusal;
-
-// The answer of a call that has no value.
-pub enum Reply {
-    Done,
-    Refused(Refusal),
-}
+use record::Reply;
 
 // The record stands first: so a call copies it in one go (bench/RESULTS.md).
 pub struct Called {
@@ -68,14 +63,4 @@ pub struct Snapshot {
     pub usb: u16,
     pub tx: u16,
     pub rx: u16,
-}
-
-pub enum InterruptAnswer {
-    Done,
-    Refused(Refusal),
-}
-
-pub struct InterruptCalled {
-    pub record: Record,
-    pub answer: InterruptAnswer,
 }

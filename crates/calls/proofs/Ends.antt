@@ -35,7 +35,7 @@ use Rattle.transfer_rules.proofs.Lent.{lent-enough}
 use Rattle.record.specs.declared.Record.{Record}
 use Rattle.record.specs.declared.Admission.{Admission}
 use Rattle.record.specs.Rows.{Row, Given, Replies}
-use Rattle.record.specs.Record.{recordSound, admissionBy, endpointsOf, withRegs, withEndpoints}
+use Rattle.record.specs.Record.{recordSound, admissionBy, endpointsOf, withRegs, withEndpoints, replyNumber}
 use Rattle.call_rules.specs.declared.StalledAnswer.{StalledAnswer}
 use Rattle.call_rules.specs.declared.StalledAnswer.the-variants as stalled
 use Rattle.call_rules.specs.Calls as impl
@@ -61,13 +61,13 @@ use Rattle.transfer_rules.proofs.ReadAnswers as reads
 use Rattle.call_rules.specs.Interrupt.{interruptBy, interruptCall}
 use Rattle.round_rules.specs.Poll.{PollOutcome, outcomeOf, pollNumber, pollWhen, pollAdmitted, pollCall}
 use Rattle.round_rules.proofs.PollReplies as polls
-use Rattle.host_rules.specs.declared.EventCalled.{EventCalled}
+use Rattle.record.specs.declared.Answered.{Answered}
 use Rattle.host_rules.specs.declared.CollectAnswer.{CollectAnswer}
 use Rattle.host_rules.specs.declared.CollectAnswer.the-variants as collect
 use Rattle.host_rules.specs.Host as host
 use Rattle.host_rules.specs.Replies as event-rows
 use Rattle.host_rules.proofs.Replies as events
-use Rattle.calls.specs.Calls.{Op, allocEp, busInit, enable, reset, setDeviceAddress, write, read, setStalled, isStalled, poll, onInterrupt, forceReset, arrival, collection, busReset, suspend, resume, setupEnd, underrun, overrun, Outcome, called, told, allocated, written, fetched, polled, interrupted, happened, arrived, outcome}
+use Rattle.calls.specs.Calls.{Op, allocEp, busInit, enable, reset, setDeviceAddress, write, read, setStalled, isStalled, poll, onInterrupt, forceReset, arrival, collection, busReset, suspend, resume, setupEnd, underrun, overrun, Outcome, called, told, allocated, written, fetched, polled, answered, arrived, outcome}
 use Rattle.calls.specs.Demand.{replies, allocReplies, among, noneLent, listLent, lent, unchanged, selected, Blocking, writing, reading}
 use Rattle.laws.proofs.Tests.{clash}
 
@@ -112,7 +112,7 @@ module _ (k : Record) (o : Op) (rs : List Row) (is : numbers rs ≡ replies o) (
 
   called-ends : (l : List ℕ) {a : impl.CallOutcome} → lent o ≡ listLent l → simple-rows.Answers a k l rs → Ends k o (called a)
   called-ends l {a} p t =
-      by-rows (t .replies) (λ n. ap called (t .unchanged n) ∙ ap (unchanged (impl.replyNumber (a .call .answer)) k) (sym p))
+      by-rows (t .replies) (λ n. ap called (t .unchanged n) ∙ ap (unchanged (replyNumber (a .call .answer)) k) (sym p))
 
   told-ends : (l : List ℕ) {b : Bool} {a : impl-stall.StalledOutcome} → lent o ≡ listLent l → stall-rows.Tells a k l rs b → Ends k o (told a)
   told-ends l {b} {a} p t =
@@ -127,10 +127,10 @@ module _ (k : Record) (o : Op) (rs : List Row) (is : numbers rs ≡ replies o) (
         buf = [];
       }) ∙ ap (unchanged (impl-stall.stalledNumber (a .call .answer)) k) (sym p))
 
-  happened-ends : {a : EventCalled} → lent o ≡ noneLent → event-rows.Answers a k rs → Ends k o (happened a)
-  happened-ends {a} p t =
+  answered-ends : {a : Answered} → lent o ≡ noneLent → event-rows.Answers a k rs → Ends k o (answered a)
+  answered-ends {a} p t =
       by-rows (t .replies)
-      (λ n. ap (λ (q : Record). happened (record { answer = a .answer; «record» = q })) (t .unchanged n) ∙ ap (unchanged (host.eventNumber (a .answer)) k) (sym p))
+      (λ n. ap (λ (q : Record). answered (record { answer = a .answer; «record» = q })) (t .unchanged n) ∙ ap (unchanged (replyNumber (a .answer)) k) (sym p))
 
 -- the store that reply 6 has listed, and the endpoint that it has selected
 module _ (k : Record) (e : ℕ) (l : List ℕ) where
@@ -278,7 +278,7 @@ module _ (k : Record) where
   unfolding interruptCall
   interrupt-ends = go (recordSound k)
     where
-      go : (p : Bool) → Ends k onInterrupt (interrupted (interruptBy p k))
+      go : (p : Bool) → Ends k onInterrupt (answered (interruptBy p k))
       go true = done refl refl
       go false = refused 16 refl refl refl
 
@@ -309,12 +309,12 @@ module _ (k : Record) where
   ends (setDeviceAddress a l) = called-ends k (setDeviceAddress a l) (simple-rows.addressRows k a l) refl refl l refl (simple.set-device-address k l a)
   ends (setStalled e d s l) = called-ends k (setStalled e d s l) (simple-rows.endpointRows k e l) refl refl l refl (simple-stall.set-stalled k l e d s)
   ends (isStalled e d l) = told-ends k (isStalled e d l) (simple-rows.endpointRows k e l) refl refl l refl (simple-stall.is-stalled k e d l)
-  ends busReset = happened-ends k busReset (event-rows.plainRows k) refl refl refl (events.bus-reset k)
-  ends suspend = happened-ends k suspend (event-rows.plainRows k) refl refl refl (events.suspend k)
-  ends resume = happened-ends k resume (event-rows.plainRows k) refl refl refl (events.resume k)
-  ends setupEnd = happened-ends k setupEnd (event-rows.plainRows k) refl refl refl (events.setup-end k)
-  ends (underrun e) = happened-ends k (underrun e) (event-rows.missRows k e) refl refl refl (events.underrun k e)
-  ends (overrun e) = happened-ends k (overrun e) (event-rows.missRows k e) refl refl refl (events.overrun k e)
+  ends busReset = answered-ends k busReset (event-rows.plainRows k) refl refl refl (events.bus-reset k)
+  ends suspend = answered-ends k suspend (event-rows.plainRows k) refl refl refl (events.suspend k)
+  ends resume = answered-ends k resume (event-rows.plainRows k) refl refl refl (events.resume k)
+  ends setupEnd = answered-ends k setupEnd (event-rows.plainRows k) refl refl refl (events.setup-end k)
+  ends (underrun e) = answered-ends k (underrun e) (event-rows.missRows k e) refl refl refl (events.underrun k e)
+  ends (overrun e) = answered-ends k (overrun e) (event-rows.missRows k e) refl refl refl (events.overrun k e)
   ends (arrival e b f) = arrival-ends e b f
   ends (collection e f) = collection-ends e f
   ends (write e b f l) = write-ends e b f l (writes.exactly k e b f l _ .0 refl)

@@ -25,10 +25,10 @@ use Rattle.record.specs.declared.Record.{Record}
 use Rattle.record.specs.declared.Refusal.{Refusal}
 use Rattle.record.specs.declared.Admission.{Admission}
 use Rattle.record.specs.declared.Admission.the-variants.{Clear, Refused}
-use Rattle.record.specs.Record.{recordSound, admissionBy, refusalNumber}
+use Rattle.record.specs.Record.{recordSound, admissionBy, refusalNumber, replyNumber}
 use Rattle.record.proofs.Numbers.{not-zero}
-use Rattle.call_rules.specs.Interrupt.{cleared, interrupted, interruptBy, interruptCall, interruptNumber}
-use Rattle.host_rules.specs.declared.EventCalled.{EventCalled}
+use Rattle.call_rules.specs.Interrupt.{cleared, interrupted, interruptBy, interruptCall}
+use Rattle.record.specs.declared.Answered.{Answered}
 use Rattle.host_rules.specs.declared.CollectCalled.{CollectCalled}
 use Rattle.host_rules.specs.Host as host
 use Rattle.calls.specs.Calls.{Op, allocEp, busInit, enable, reset, setDeviceAddress, write, read, setStalled, isStalled, poll, onInterrupt, forceReset, arrival, collection, busReset, suspend, resume, setupEnd, underrun, overrun, outcome, step}
@@ -114,8 +114,8 @@ module _ (k : Record) where
   abbrev Left : ℕ → File → File → Type 0
   Left reply q x = q ≡ cond (eqb reply 0) x r
 
-  abbrev Happened : EventCalled → File → Type 0
-  Happened a x = Left (host.eventNumber (a .answer)) (a .«record» .regs .words) x
+  abbrev Happened : Answered → File → Type 0
+  Happened a x = Left (replyNumber (a .answer)) (a .«record» .regs .words) x
 
   abbrev Fetched : CollectCalled → File → Type 0
   Fetched a x = Left (host.collectNumber (a .answer)) (a .«record» .regs .words) x
@@ -137,7 +137,7 @@ module _ (k : Record) where
   collection-left e (Refused y) = not-done y (happens (events.collection e) r)
   collection-left e Clear = refl
 
-  interrupt-left : (b : Bool) → Left (interruptNumber (interruptBy b k .answer)) (interruptBy b k .«record» .regs .words) (unlisted onInterrupt r)
+  interrupt-left : (b : Bool) → Happened (interruptBy b k) (unlisted onInterrupt r)
   unfolding interrupted cleared
   interrupt-left true = refl
   interrupt-left false = refl

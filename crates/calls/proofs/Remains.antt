@@ -21,9 +21,9 @@ use Rattle.event_rules.proofs.Promises as promised
 use Rattle.control_state.specs.declared.ControlState.{ControlState}
 use Rattle.endpoints.specs.Endpoints.{blank}
 use Rattle.record.specs.declared.Record.{Record}
-use Rattle.record.specs.Record.{recordSound, admissionBy, endpointsIn, endpointsOf}
+use Rattle.record.specs.Record.{recordSound, admissionBy, endpointsIn, endpointsOf, replyNumber}
 use Rattle.record.proofs.Passing.{record-is-sound}
-use Rattle.call_rules.specs.Calls.{stored, unless, short, begun, idled, beyond, replyNumber}
+use Rattle.call_rules.specs.Calls.{stored, unless, short, begun, idled, beyond}
 use Rattle.call_rules.specs.Reset.{resetStores, resetCall}
 use Rattle.call_rules.specs.Stall.{epStall, afterStall, setStalledCall}
 use Rattle.transfer_rules.specs.Peek.{leaving, blocked}

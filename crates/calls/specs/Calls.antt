@@ -17,9 +17,9 @@ use Rattle.transfer_rules.specs.WriteZero.{writeNumber, writeValues}
 use Rattle.transfer_rules.specs.Read.{ReadOutcome, readCall}
 use Rattle.transfer_rules.specs.ReadZero.{readNumber, readValues}
 use Rattle.round_rules.specs.Poll.{PollOutcome, pollCall, pollNumber, pollValues}
-use Rattle.call_rules.specs.declared.InterruptCalled.{InterruptCalled}
-use Rattle.call_rules.specs.Interrupt.{interruptCall, interruptNumber}
-use Rattle.host_rules.specs.declared.EventCalled.{EventCalled}
+use Rattle.record.specs.declared.Answered.{Answered}
+use Rattle.record.specs.Record.{replyNumber}
+use Rattle.call_rules.specs.Interrupt.{interruptCall}
 use Rattle.host_rules.specs.declared.CollectCalled.{CollectCalled}
 use Rattle.host_rules.specs.Host as host
 
@@ -56,7 +56,7 @@ pub record Outcome : Type 0 where
 
 abbrev pub called : impl.CallOutcome → Outcome
 called o = record {
-  reply = impl.replyNumber (o .call .answer);
+  reply = replyNumber (o .call .answer);
   values = [];
   «record» = o .call .«record»;
   stores = o .call .stores;
@@ -121,15 +121,12 @@ polled p = record {
   buf = [];
 }
 
-abbrev pub interrupted : InterruptCalled → Outcome
-interrupted o = record { reply = interruptNumber (o .answer); values = []; «record» = o .«record»; stores = 0; fifo = []; list = []; buf = [] }
-
-abbrev pub happened : EventCalled → Outcome
-happened o = record { reply = host.eventNumber (o .answer); values = []; «record» = o .«record»; stores = 0; fifo = []; list = []; buf = [] }
+abbrev pub answered : Answered → Outcome
+answered o = record { reply = replyNumber (o .answer); values = []; «record» = o .«record»; stores = 0; fifo = []; list = []; buf = [] }
 
 abbrev pub arrived : host.Arrival → Outcome
 arrived o = record {
-  reply = host.eventNumber (o .event .answer);
+  reply = replyNumber (o .event .answer);
   values = [];
   «record» = o .event .«record»;
   stores = 0;
@@ -162,16 +159,16 @@ outcome k (read e b f l) = fetched (readCall k e b f l)
 outcome k (setStalled e d s l) = called (impl-stall.setStalledCall k e d s l)
 outcome k (isStalled e d l) = told (impl-stall.isStalledCall k e d l)
 outcome k (poll l) = polled (pollCall k l)
-outcome k onInterrupt = interrupted (interruptCall k)
-outcome k forceReset = record { reply = impl.replyNumber impl.forceResetCall; values = []; «record» = k; stores = 0; fifo = []; list = []; buf = [] }
+outcome k onInterrupt = answered (interruptCall k)
+outcome k forceReset = record { reply = replyNumber impl.forceResetCall; values = []; «record» = k; stores = 0; fifo = []; list = []; buf = [] }
 outcome k (arrival e b f) = arrived (host.arrivalCall k e b f)
 outcome k (collection e f) = collected f (host.collectionCall k e f)
-outcome k busReset = happened (host.busResetCall k)
-outcome k suspend = happened (host.suspendCall k)
-outcome k resume = happened (host.resumeCall k)
-outcome k setupEnd = happened (host.setupEndCall k)
-outcome k (underrun e) = happened (host.underrunCall k e)
-outcome k (overrun e) = happened (host.overrunCall k e)
+outcome k busReset = answered (host.busResetCall k)
+outcome k suspend = answered (host.suspendCall k)
+outcome k resume = answered (host.resumeCall k)
+outcome k setupEnd = answered (host.setupEndCall k)
+outcome k (underrun e) = answered (host.underrunCall k e)
+outcome k (overrun e) = answered (host.overrunCall k e)
 
 -- the record after an operation
 abbrev pub step : Record → Op → Record

@@ -8,7 +8,7 @@ use Rattle.board.specs.Table as table
 use Rattle.register_file.specs.Registers.{freshFile, freshRegs, index, faddr, sideWord, sideOf, sideIn, withSideIn, sideAt, withSide}
 use Rattle.csr.specs.Sound.{sideSound}
 use Rattle.register_file.specs.Sound.{wordsBelow, sidesBelow, regsSound}
-use Rattle.transfer_rules.specs.Peek.{shortIn, rxPktRdy, rxCount, ended}
+use Rattle.transfer_rules.specs.Peek.{shortIn, ended}
 use Rattle.record.specs.Record as whole
 use Rattle.record.specs.Record.{freshRecord, areaIn, areaOf, needIn, needOf, flagsSound, recordSound, endpointsIn, endpointsOf}
 use Rattle.cases.specs.Allocations.{Hold}
@@ -18,5 +18,5 @@ use Rattle.transfer_rules.specs.Read.{got, readDone, readIn, readCall}
 use Rattle.cases.specs.Readings.{readings}
 
 pub p13 : Hold (readings Display)
-unfolding _also_ bit freshFile freshRegs index faddr sideIn sideOf sideAt sideWord withSideIn withSide sideSound wordsBelow sidesBelow regsSound shortIn rxPktRdy rxCount freshRecord areaIn areaOf needIn needOf table.sizesOf flagsSound whole.passes recordSound endpointsIn endpointsOf notReadable notSetup ownTestsAt testsIn ended rxSize dataOut readZero got readDone readIn readCall
+unfolding _also_ bit freshFile freshRegs index faddr sideIn sideOf sideAt sideWord withSideIn withSide sideSound wordsBelow sidesBelow regsSound shortIn freshRecord areaIn areaOf needIn needOf table.sizesOf flagsSound whole.passes recordSound endpointsIn endpointsOf notReadable notSetup ownTestsAt testsIn ended rxSize dataOut readZero got readDone readIn readCall
 p13 = rw rows-display

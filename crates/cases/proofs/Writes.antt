@@ -8,7 +8,7 @@ use Rattle.board.specs.Table as table
 use Rattle.register_file.specs.Registers.{freshFile, freshRegs, index, faddr, sideOf, sideIn, sideAt}
 use Rattle.csr.specs.Sound.{sideSound}
 use Rattle.register_file.specs.Sound.{wordsBelow, sidesBelow, regsSound}
-use Rattle.transfer_rules.specs.Peek.{shortIn, txPktRdy, ended}
+use Rattle.transfer_rules.specs.Peek.{shortIn, ended}
 use Rattle.record.specs.Record as whole
 use Rattle.record.specs.Record.{freshRecord, areaIn, areaOf, needIn, needOf, flagsSound, recordSound, endpointsIn, endpointsOf}
 use Rattle.cases.specs.Allocations.{Hold}
@@ -18,5 +18,5 @@ use Rattle.transfer_rules.specs.Write.{sent, writeDone, writeIn, writeCall}
 use Rattle.cases.specs.Writes.{writes}
 
 pub p11-and-p12 : Hold (writes Display)
-unfolding _also_ bit freshFile freshRegs index faddr sideIn sideOf sideAt sideSound wordsBelow sidesBelow regsSound txPktRdy freshRecord areaIn areaOf needIn needOf table.sizesOf flagsSound whole.passes recordSound endpointsIn endpointsOf shortIn tooLong notWritable ownTestsAt testsIn txSizeIn txSize ended dataIn sentDataIn sent writeDone writeIn writeCall
+unfolding _also_ bit freshFile freshRegs index faddr sideIn sideOf sideAt sideSound wordsBelow sidesBelow regsSound freshRecord areaIn areaOf needIn needOf table.sizesOf flagsSound whole.passes recordSound endpointsIn endpointsOf shortIn tooLong notWritable ownTestsAt testsIn txSizeIn txSize ended dataIn sentDataIn sent writeDone writeIn writeCall
 p11-and-p12 = rw rows-display

@@ -270,14 +270,8 @@ pub fn rxcsrl_set(s: RxcsrlSet, w: Rxcsrl) -> Rxcsrl
 }
 
 // A waiting length within its area, and 0 where the ready bit is clear.
-fn room(ready: bool, size: u16) -> u16
-    ensures { λ r. ⌜ r ≡ cond ready size 0 ⌝ }
-{
-    if ready { size } else { 0 }
-}
-
 pub fn side_sound(size: u16, s: Side) -> bool
     ensures { λ b. ⌜ b ≡ sideSound size s ⌝ }
 {
-    s.len <= room(s.ready, size)
+    s.len <= weight(s.ready, size)
 }

@@ -10,7 +10,7 @@ ghost use mathlib.Core.Path.{_≡_};
 ghost use Prim.Native.Nat.{_+_, _*_, _≤_, _<_};
 ghost use lib.ListN.{length};
 ghost use Rattle.store_rules.specs.Stores.{log};
-ghost use Rattle.common_rules.specs.Enable.{flushedZero, enabledZero, isoWritten, waits, flush, flushed, sized, settled, enabledOther, enabled, isochronous, epTxEnable, epRxEnable};
+ghost use Rattle.common_rules.specs.Enable.{flushedZero, enabledZero, isoWritten, waits, flush, flushed, sized, settled, enabledOther, enabled, epTxEnable, epRxEnable};
 
 fn flush_zero(w: &mut [u16; 46], list: &mut [u16], n: usize) -> usize
     requires { ⌜ n * 3 + 3 ≤ length (now list) ⌝ }
@@ -134,12 +134,6 @@ fn enable(
     enable_other(w, list, a, d, index, iso, size)
 }
 
-fn is_isochronous(t: EndpointType) -> bool
-    ensures { λ b. ⌜ b ≡ isochronous t ⌝ }
-{
-    endpoint_ops::type_number(t) == endpoint_ops::type_number(EndpointType::Isochronous)
-}
-
 pub fn ep_tx_enable(
     w: &mut [u16; 46],
     list: &mut [u16],
@@ -157,7 +151,7 @@ pub fn ep_tx_enable(
         n,
         Direction::In,
         index,
-        is_isochronous(t),
+        endpoint_ops::same_type(t, EndpointType::Isochronous),
         config.tx_max_packet_size,
     )
 }
@@ -179,7 +173,7 @@ pub fn ep_rx_enable(
         n,
         Direction::Out,
         index,
-        is_isochronous(t),
+        endpoint_ops::same_type(t, EndpointType::Isochronous),
         config.rx_max_packet_size,
     )
 }

@@ -41,7 +41,7 @@ pub fn type_number(t: EndpointType) -> u8
     }
 }
 
-fn same_type(a: EndpointType, b: EndpointType) -> bool
+pub fn same_type(a: EndpointType, b: EndpointType) -> bool
     ensures { λ r. ⌜ r ≡ sameType a b ⌝ }
 {
     type_number(a) == type_number(b)

@@ -6,24 +6,8 @@ ghost use mathlib.Core.Path.{_≡_};
 ghost use Prim.Native.Nat.{_+_, _≤_, _<_};
 ghost use lib.ListN.{length};
 ghost use Rattle.laws.specs.Lists.{pasted};
-ghost use Rattle.register_file.specs.Registers.{sideAt, intrusb, intrOf, withIntr};
+ghost use Rattle.register_file.specs.Registers.{intrusb, intrOf, withIntr};
 ghost use Rattle.event_rules.specs.Events.{interrupting, waitingAt, arrived, collected, busBit, busRaised, setupEnded, missing, intrusbCleared, intrCleared};
-
-// Whether a packet waits at a side.
-pub fn waits(w: &[u16; 46], e: u8, d: Direction) -> bool
-    ensures { λ b. ⌜ b ≡ sideAt (now (w .entry)) e d .ready ⌝ }
-{
-    let s = regs::side_at(w, e as u16, d);
-    s.ready
-}
-
-// The waiting packet's length.
-pub fn waiting_len(w: &[u16; 46], e: u8, d: Direction) -> u16
-    ensures { λ n. ⌜ n ≡ sideAt (now (w .entry)) e d .len ⌝ }
-{
-    let s = regs::side_at(w, e as u16, d);
-    s.len
-}
 
 fn intr_of(w: &[u16; 46], d: Direction) -> u16
     ensures { λ v. ⌜ v ≡ intrOf (now (w .entry)) d ⌝ }

@@ -8,7 +8,7 @@ use lib.ListN.{length}
 use borrow.Author.Tests.{ne-eqb, le-ltb, lt-leb}
 use Rattle.record.specs.declared.Record.{Record}
 use Rattle.record.specs.Record.{recordSound, endpointsOf, needIn, needOf}
-use Rattle.transfer_rules.specs.Peek.{shortIn, short, rxPktRdy}
+use Rattle.transfer_rules.specs.Peek.{shortIn, short}
 use Rattle.transfer_rules.specs.ReadTests as tests
 use Rattle.transfer_rules.proofs.Lent.{Admitted}
 use Rattle.transfer_rules.proofs.ReadCases.{nothingWaits, notReadable, notSetup, done}
@@ -22,7 +22,6 @@ module _ (k : Record) (e : ℕ) (b f l : List ℕ) (high : e ≡ 0 → ⊥) wher
   enough p q = rw (le-ltb (length f) (needOf k) p, le-ltb (length l) 384 q)
 
   there-is : T (waiting k e) → nothingWaits k e ≡ false
-  unfolding rxPktRdy
   there-is w = go (waiting k e) w
     where
       go : (r : Bool) → T r → not r ≡ false

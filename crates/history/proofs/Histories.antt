@@ -12,7 +12,6 @@ use Rattle.event_rules.specs.Events.{interrupting, waitingAt, arrived, collecte
 use Rattle.common_rules.specs.Overrun.{underRunCleared, overRunCleared, repaired, repairedBelow}
 use Rattle.laws.specs.Lists.{numbers}
 use Rattle.record.specs.Record.{freshRecord}
-use Rattle.transfer_rules.specs.Peek.{txPktRdy, rxPktRdy, rxCount}
 use Rattle.transfer_rules.specs.WriteTests as write
 use Rattle.transfer_rules.specs.Write as write-write
 use Rattle.transfer_rules.specs.ReadTests as read
@@ -76,7 +75,7 @@ record Computed : Type 0 where
   second : isRound (says (woken ++ poll ∷ [])) ≡ false
 
 computed : Computed
-unfolding bit raised clear bitsBelow setBits freshFile freshRegs index withIndex intrusb withIntrusb intrOf withIntr sideWord sideOf sideIn withSideIn sideAt withSide csr0lRead txcsrlOf rxcsrlOf txStored rxStored txcsrlSet rxcsrlSet dropped listed listing withOwn writeIndex writeTxcsrl writeRxcsrl modifyTxcsrl modifyRxcsrl writePacket interrupting waitingAt arrived collected busRaised busReset busResume intrusbCleared intrCleared underRunCleared overRunCleared repaired numbers repairedBelow freshRecord txPktRdy rxPktRdy rxCount write.ownTestsAt write.notWritable write-write.writeDone write-write.loaded write-write.sent write-write.sentOther read.ownTestsAt read.notReadable read.notSetup read-read.readDone read-read.got read-read.readOther collectedFrom snapshotOf cleared busTaken raisedIf endpointTaken endpointsTaken taken endpointZero acceptedBy acceptStep readyAt drained visit walked told ended walkedOn acceptedOn roundOut pollLogged
+unfolding bit raised clear bitsBelow setBits freshFile freshRegs index withIndex intrusb withIntrusb intrOf withIntr sideWord sideOf sideIn withSideIn sideAt withSide csr0lRead txcsrlOf rxcsrlOf txStored rxStored txcsrlSet rxcsrlSet dropped listed listing withOwn writeIndex writeTxcsrl writeRxcsrl modifyTxcsrl modifyRxcsrl writePacket interrupting waitingAt arrived collected busRaised busReset busResume intrusbCleared intrCleared underRunCleared overRunCleared repaired numbers repairedBelow freshRecord write.ownTestsAt write.notWritable write-write.writeDone write-write.loaded write-write.sent write-write.sentOther read.ownTestsAt read.notReadable read.notSetup read-read.readDone read-read.got read-read.readOther collectedFrom snapshotOf cleared busTaken raisedIf endpointTaken endpointsTaken taken endpointZero acceptedBy acceptStep readyAt drained visit walked told ended walkedOn acceptedOn roundOut pollLogged
 computed =
     record {
       waits = record { arrived = tt; still = (tt, (tt, (tt, tt))); taken = tt; polled = tt };

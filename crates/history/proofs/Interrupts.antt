@@ -15,7 +15,7 @@ use Rattle.event_rules.proofs.Others.{usb-clears}
 use Rattle.record.specs.declared.Record.{Record}
 use Rattle.record.specs.Record.{endpointsIn, endpointsOf}
 use Rattle.record.proofs.Passing.{sound-record-passes}
-use Rattle.call_rules.specs.declared.InterruptCalled.{InterruptCalled}
+use Rattle.record.specs.declared.Answered.{Answered}
 use Rattle.call_rules.specs.Interrupt.{snapshotOf, interrupted, interruptBy, interruptCall}
 use Rattle.calls.specs.Calls.{onInterrupt}
 use Rattle.rounds.specs.Machine.{interrupt, isInterrupt}
@@ -30,7 +30,7 @@ module _ (b : Board) (k : Record) (kept : Kept b k) where
   unfolding interruptCall
   is-answered = ap (λ (passes : Bool). interruptBy passes k) (sound-record-passes k (kept .good .sound))
 
-  abbrev InterruptDoes : InterruptCalled → Type 0
+  abbrev InterruptDoes : Answered → Type 0
   InterruptDoes o = Does (look b) k (interruptEvent (o .answer) k) (o .«record»)
 
   taken-in : InterruptDoes (interruptBy true k)
@@ -54,8 +54,8 @@ module _ (b : Board) (k : Record) (kept : Kept b k) where
   pub reads-snapshot : event k onInterrupt ≡ interrupt (bit (snapshotOf (k .regs .words) .tx)) (bit (snapshotOf (k .regs .words) .usb) (busBit Suspend))
   unfolding snapshotOf
   reads-snapshot =
-      ap (λ (o : InterruptCalled). interruptEvent (o .answer) k) is-answered
+      ap (λ (o : Answered). interruptEvent (o .answer) k) is-answered
       ∙ ap (λ (n : ℕ). interrupt (bit n) (bit (intrusb (k .regs .words)) (busBit Suspend))) (sym (usb-clears (k .regs .words) (kept .good .six) .1))
 
   pub interrupt-answered : T (isInterrupt (interruptEvent (interruptCall k .answer) k))
-  interrupt-answered = subst (λ (o : InterruptCalled). T (isInterrupt (interruptEvent (o .answer) k))) (sym is-answered) tt
+  interrupt-answered = subst (λ (o : Answered). T (isInterrupt (interruptEvent (o .answer) k))) (sym is-answered) tt

@@ -33,7 +33,6 @@ use Rattle.control_state.specs.declared.ControlStateEnum.{ControlStateEnum}
 use Rattle.control_state.specs.declared.ControlStateEnum.the-variants.{Idle, Setup, DataIn, DataOut, Accepted, NodataPhase}
 use Rattle.record.specs.declared.Flags.{Flags}
 use Rattle.record.specs.Record.{withEp0}
-use Rattle.transfer_rules.specs.Peek.{rxPktRdy}
 use Rattle.transfer_rules.proofs.Readings.{rx-ready}
 use Rattle.round_rules.specs.Zero.{Round, round, setupTaken, restarted, cutShort, receivedBy, zeroBy, zeroServed, endpointZero}
 use Rattle.round_rules.specs.Walk.{readyAt, walked}
@@ -173,7 +172,7 @@ module _ (r : File) (none : (e : ℕ) → sideAt r e Out .ready ≡ false → si
   known e h k i = ap (λ (q : File). sideAt q i Out .ready) (index-selects e h) ∙ ap (λ (s : Side). s .ready) (reselected (h .regs) e i Out) ∙ k i
 
   reads : (e : ℕ) (h : Log) → Known h → readyAt e (writeIndex e h .regs) ≡ sideAt r e Out .ready
-  unfolding readyAt rxPktRdy
+  unfolding readyAt
   reads e h k = ap (readyAt e) (index-selects e h) ∙ rx-ready (h .regs) e ∙ k e
 
   pub walk-leaves : (flags : ℕ) (h : Log) → Waits h → walked flags h .out ≡ leftBy flags (λ e. sideAt r e Out .ready)

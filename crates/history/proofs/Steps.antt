@@ -17,8 +17,8 @@ use Rattle.record.specs.declared.Record.{Record}
 use Rattle.record.specs.declared.Admission.{Admission}
 use Rattle.record.specs.declared.Admission.the-variants.{Clear, Refused}
 use Rattle.record.specs.Record.{admissionBy, recordSound}
-use Rattle.call_rules.specs.declared.InterruptAnswer.{InterruptAnswer}
-use Rattle.call_rules.specs.declared.InterruptAnswer.the-variants as interrupted
+use Rattle.record.specs.declared.Reply.{Reply}
+use Rattle.record.specs.declared.Reply.the-variants as reply
 use Rattle.call_rules.specs.Interrupt.{interruptCall}
 use Rattle.round_rules.specs.declared.PollResult.the-variants.{None, Data, Reset, Resume, Suspend}
 use Rattle.round_rules.specs.declared.PollAnswer.{PollAnswer}
@@ -48,9 +48,9 @@ poll-brings-none i (polled.Done Resume) = tt
 poll-brings-none i (polled.Done Suspend) = tt
 poll-brings-none i (polled.Refused x) = tt
 
-pub interrupt-brings-none : (i : ℕ) (a : InterruptAnswer) (k : Record) → T (not (arrivesAt i (interruptEvent a k)))
-interrupt-brings-none i interrupted.Done k = tt
-interrupt-brings-none i (interrupted.Refused x) k = tt
+pub interrupt-brings-none : (i : ℕ) (a : Reply) (k : Record) → T (not (arrivesAt i (interruptEvent a k)))
+interrupt-brings-none i reply.Done k = tt
+interrupt-brings-none i (reply.Refused x) k = tt
 
 pub one-place : (k : Record) (o : Op) (i : ℕ) → T (waiting k i) → T (not (arrivesAt i (event k o)))
 one-place k (poll l) i w = poll-brings-none i (pollCall k l .result .answer)

@@ -16,16 +16,14 @@ use Rattle.event_rules.specs.Events.{busBit}
 use Rattle.endpoints.specs.Endpoints.{blank}
 use Rattle.record.specs.declared.Record.{Record}
 use Rattle.record.specs.Record.{freshRecord, recordSound, endpointsOf, areaOf, needOf}
-use Rattle.call_rules.specs.declared.InterruptAnswer.{InterruptAnswer}
-use Rattle.call_rules.specs.declared.InterruptAnswer.the-variants as interrupted
+use Rattle.record.specs.declared.Reply.{Reply}
+use Rattle.record.specs.declared.Reply.the-variants as reply
 use Rattle.call_rules.specs.Interrupt.{interruptCall}
 use Rattle.round_rules.specs.declared.PollResult.{PollResult}
 use Rattle.round_rules.specs.declared.PollResult.the-variants.{None, Data, Reset, Resume, Suspend}
 use Rattle.round_rules.specs.declared.PollAnswer.{PollAnswer}
 use Rattle.round_rules.specs.declared.PollAnswer.the-variants as polled
 use Rattle.round_rules.specs.Poll.{pollCall}
-use Rattle.host_rules.specs.declared.EventAnswer.{EventAnswer}
-use Rattle.host_rules.specs.declared.EventAnswer.the-variants as happened
 use Rattle.host_rules.specs.Host.{arrivalCall}
 use Rattle.calls.specs.Calls.{Op, allocEp, busInit, enable, reset, setDeviceAddress, write, read, setStalled, isStalled, poll, onInterrupt, forceReset, arrival, collection, busReset, suspend, resume, setupEnd, underrun, overrun, outcome, step}
 use Rattle.rounds.specs.Machine as rounds
@@ -50,14 +48,14 @@ pollEvent (polled.Refused x) = quiet
 
 -- "taken": an answered on_interrupt. What it read is what the model's interrupt registers held just before it, never the driver's flags.
 -- A packet's receive interrupt is taken by any interrupt after it arrived: its bit stands in the register until it is read.
-abbrev pub interruptEvent : InterruptAnswer → Record → Event
-interruptEvent interrupted.Done k = interrupt (bit (intrOf (k .regs .words) In)) (bit (intrusb (k .regs .words)) (busBit SuspendBit))
-interruptEvent (interrupted.Refused x) k = quiet
+abbrev pub interruptEvent : Reply → Record → Event
+interruptEvent reply.Done k = interrupt (bit (intrOf (k .regs .words) In)) (bit (intrusb (k .regs .words)) (busBit SuspendBit))
+interruptEvent (reply.Refused x) k = quiet
 
 -- "the packets that arrived": answered arrivals, over the whole history
-abbrev pub arrivalEvent : EventAnswer → ℕ → Event
-arrivalEvent happened.Done e = rounds.arrival e
-arrivalEvent (happened.Refused x) e = quiet
+abbrev pub arrivalEvent : Reply → ℕ → Event
+arrivalEvent reply.Done e = rounds.arrival e
+arrivalEvent (reply.Refused x) e = quiet
 
 abbrev pub event : Record → Op → Event
 event k (poll l) = pollEvent (pollCall k l .result .answer)

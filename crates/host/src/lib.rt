@@ -6,13 +6,13 @@ use board::Direction;
 use event_rules::BusEvent;
 use host_rules::CollectAnswer;
 use host_rules::CollectCalled;
-use host_rules::EventAnswer;
-use host_rules::EventCalled;
 use host_rules::Signal;
 use record::Admission;
+use record::Answered;
 use record::Flags;
 use record::Record;
 use record::Refusal;
+use record::Reply;
 use register_file::Regs;
 ghost use mathlib.Core.Path.{_≡_};
 ghost use mathlib.Core.Bool.{false};
@@ -22,7 +22,7 @@ ghost use Rattle.laws.specs.Lists.{pasted};
 ghost use Rattle.board.specs.declared.Direction.the-variants.{Out};
 ghost use Rattle.event_rules.specs.Events.{arrived, collected, missing};
 ghost use Rattle.record.specs.Record.{admissionBy, passes, recordSound, areaIn};
-ghost use Rattle.host_rules.specs.Host.{answerBy, leftBy, unless, signalled, missRefusalIn, entryIn, InBuffer, arrivalRefusalIn, arrivalCall, collectionRefusalIn, packetIn, collectBy, collectionCall, busResetCall, suspendCall, resumeCall, setupEndCall, missCall, underrunCall, overrunCall, eventNumber};
+ghost use Rattle.host_rules.specs.Host.{answerBy, leftBy, unless, signalled, missRefusalIn, entryIn, InBuffer, arrivalRefusalIn, arrivalCall, collectionRefusalIn, packetIn, collectBy, collectionCall, busResetCall, suspendCall, resumeCall, setupEndCall, missCall, underrunCall, overrunCall};
 
 fn happen(w: &mut [u16; 46], o: Signal)
     ensures { λ _. ⌜ now (w .exit) ≡ signalled o (now (w .entry)) ⌝ }
@@ -40,20 +40,20 @@ fn happen(w: &mut [u16; 46], o: Signal)
 }
 
 // 16 alone can refuse it.
-fn signal_if(b: Board, w: &mut [u16; 46], f: Flags, o: Signal) -> EventAnswer
+fn signal_if(b: Board, w: &mut [u16; 46], f: Flags, o: Signal) -> Reply
     ensures { λ a. ⌜ (a ≡ answerBy (admissionBy false (passes b (now (w .entry)) f) false)) × (now (w .exit) ≡ leftBy (admissionBy false (passes b (now (w .entry)) f) false) (now (w .entry)) (signalled o (now (w .entry)))) ⌝ }
 {
     let t = record_ops::admit(false, b, w, f, false);
     match t {
-        Admission::Refused(x) => EventAnswer::Refused(x),
+        Admission::Refused(x) => Reply::Refused(x),
         Admission::Clear => {
             happen(w, o);
-            EventAnswer::Done
+            Reply::Done
         }
     }
 }
 
-fn on_signal(k: Record, o: Signal) -> EventCalled
+fn on_signal(k: Record, o: Signal) -> Answered
     ensures { λ a. ⌜ a ≡ unless (admissionBy false (recordSound k) false) k (signalled o (k .regs .words)) ⌝ }
 {
     let r = k.regs;
@@ -63,7 +63,7 @@ fn on_signal(k: Record, o: Signal) -> EventCalled
     let b = r.board;
     let mut w = r.words;
     let a = signal_if(b, &mut w, f, o);
-    EventCalled {
+    Answered {
         answer: a,
         record: Record {
             regs: Regs { board: b, words: w },
@@ -74,25 +74,25 @@ fn on_signal(k: Record, o: Signal) -> EventCalled
     }
 }
 
-pub fn bus_reset(k: Record) -> EventCalled
+pub fn bus_reset(k: Record) -> Answered
     ensures { λ a. ⌜ a ≡ busResetCall k ⌝ }
 {
     on_signal(k, Signal::Bus(BusEvent::Reset))
 }
 
-pub fn suspend(k: Record) -> EventCalled
+pub fn suspend(k: Record) -> Answered
     ensures { λ a. ⌜ a ≡ suspendCall k ⌝ }
 {
     on_signal(k, Signal::Bus(BusEvent::Suspend))
 }
 
-pub fn resume(k: Record) -> EventCalled
+pub fn resume(k: Record) -> Answered
     ensures { λ a. ⌜ a ≡ resumeCall k ⌝ }
 {
     on_signal(k, Signal::Bus(BusEvent::Resume))
 }
 
-pub fn setup_end(k: Record) -> EventCalled
+pub fn setup_end(k: Record) -> Answered
     ensures { λ a. ⌜ a ≡ setupEndCall k ⌝ }
 {
     on_signal(k, Signal::SetupEnd)
@@ -105,20 +105,20 @@ fn miss_refusal(b: Board, w: &[u16; 46], f: Flags, ep: u8) -> Admission
     record_ops::admit(false, b, w, f, (ep == 0) | (record_ops::endpoints(b) <= ep))
 }
 
-fn miss_if(b: Board, w: &mut [u16; 46], f: Flags, ep: u8, d: Direction) -> EventAnswer
+fn miss_if(b: Board, w: &mut [u16; 46], f: Flags, ep: u8, d: Direction) -> Reply
     ensures { λ a. ⌜ (a ≡ answerBy (missRefusalIn b (now (w .entry)) f ep)) × (now (w .exit) ≡ leftBy (missRefusalIn b (now (w .entry)) f ep) (now (w .entry)) (missing (now (w .entry)) ep d)) ⌝ }
 {
     let t = miss_refusal(b, w, f, ep);
     match t {
-        Admission::Refused(x) => EventAnswer::Refused(x),
+        Admission::Refused(x) => Reply::Refused(x),
         Admission::Clear => {
             events::miss(w, ep, d);
-            EventAnswer::Done
+            Reply::Done
         }
     }
 }
 
-fn miss(k: Record, ep: u8, d: Direction) -> EventCalled
+fn miss(k: Record, ep: u8, d: Direction) -> Answered
     ensures { λ a. ⌜ a ≡ missCall k ep d ⌝ }
 {
     let r = k.regs;
@@ -128,7 +128,7 @@ fn miss(k: Record, ep: u8, d: Direction) -> EventCalled
     let b = r.board;
     let mut w = r.words;
     let a = miss_if(b, &mut w, f, ep, d);
-    EventCalled {
+    Answered {
         answer: a,
         record: Record {
             regs: Regs { board: b, words: w },
@@ -139,13 +139,13 @@ fn miss(k: Record, ep: u8, d: Direction) -> EventCalled
     }
 }
 
-pub fn underrun(k: Record, ep: u8) -> EventCalled
+pub fn underrun(k: Record, ep: u8) -> Answered
     ensures { λ a. ⌜ a ≡ underrunCall k ep ⌝ }
 {
     miss(k, ep, Direction::In)
 }
 
-pub fn overrun(k: Record, ep: u8) -> EventCalled
+pub fn overrun(k: Record, ep: u8) -> Answered
     ensures { λ a. ⌜ a ≡ overrunCall k ep ⌝ }
 {
     miss(k, ep, Direction::Out)
@@ -183,7 +183,7 @@ fn arrival_refusal(
             if s.size < bytes {
                 return Admission::Refused(Refusal::TooLong);
             }
-            if events::waits(w, ep, Direction::Out) {
+            if regs::waits(w, ep, Direction::Out) {
                 return Admission::Refused(Refusal::OutOfTurn);
             }
             Admission::Clear
@@ -191,28 +191,21 @@ fn arrival_refusal(
     }
 }
 
-fn arrive_if(
-    b: Board,
-    w: &mut [u16; 46],
-    f: Flags,
-    ep: u8,
-    bytes: &[u8],
-    fifo: &mut [u8],
-) -> EventAnswer
+fn arrive_if(b: Board, w: &mut [u16; 46], f: Flags, ep: u8, bytes: &[u8], fifo: &mut [u8]) -> Reply
     ensures { λ a. ⌜ (let t = arrivalRefusalIn b (now (w .entry)) f ep (length (now (bytes .entry))) (length (now (fifo .entry))) in (a ≡ answerBy t) × (now (w .exit) ≡ leftBy t (now (w .entry)) (arrived (now (w .entry)) ep (length (now (bytes .entry))))) × (now (fifo .exit) ≡ leftBy t (now (fifo .entry)) (pasted (now (fifo .entry)) (areaIn b ep Out .start) (now (bytes .entry))))) ⌝ }
 {
     let t = arrival_refusal(b, w, f, ep, bytes.len(), fifo.len());
     match t {
-        Admission::Refused(x) => EventAnswer::Refused(x),
+        Admission::Refused(x) => Reply::Refused(x),
         Admission::Clear => {
             let s = record_ops::area(b, ep, Direction::Out);
             events::arrive(w, ep, bytes, s, fifo);
-            EventAnswer::Done
+            Reply::Done
         }
     }
 }
 
-pub fn arrival(k: Record, ep: u8, bytes: &[u8], fifo: &mut [u8]) -> EventCalled
+pub fn arrival(k: Record, ep: u8, bytes: &[u8], fifo: &mut [u8]) -> Answered
     ensures { λ a. ⌜ record { event = a; fifo = now (fifo .exit) } ≡ arrivalCall k ep (now (bytes .entry)) (now (fifo .entry)) ⌝ }
 {
     let r = k.regs;
@@ -222,7 +215,7 @@ pub fn arrival(k: Record, ep: u8, bytes: &[u8], fifo: &mut [u8]) -> EventCalled
     let b = r.board;
     let mut w = r.words;
     let a = arrive_if(b, &mut w, f, ep, bytes, fifo);
-    EventCalled {
+    Answered {
         answer: a,
         record: Record {
             regs: Regs { board: b, words: w },
@@ -241,7 +234,7 @@ fn collection_refusal(b: Board, w: &[u16; 46], f: Flags, ep: u8, memory: usize) 
     match t {
         Admission::Refused(x) => Admission::Refused(x),
         Admission::Clear => {
-            if events::waits(w, ep, Direction::In) {
+            if regs::waits(w, ep, Direction::In) {
                 return Admission::Clear;
             }
             Admission::Refused(Refusal::OutOfTurn)
@@ -255,7 +248,7 @@ fn collect(b: Board, w: &mut [u16; 46], ep: u8) -> CollectAnswer
     ensures { λ a. ⌜ (a ≡ packetIn b (now (w .entry)) ep) × (now (w .exit) ≡ collected (now (w .entry)) ep) ⌝ }
 {
     let s = record_ops::area(b, ep, Direction::In);
-    let n = events::waiting_len(w, ep, Direction::In);
+    let n = regs::waiting_len(w, ep, Direction::In);
     events::collect(w, ep);
     CollectAnswer::Done(s.start, n as usize)
 }
@@ -289,15 +282,5 @@ pub fn collection(k: Record, ep: u8, fifo: &[u8]) -> CollectCalled
             control_state: c,
             irq: f,
         },
-    }
-}
-
-// Document 01's number of an answer.
-pub fn happened_number(a: EventAnswer) -> u8
-    ensures { λ n. ⌜ n ≡ eventNumber a ⌝ }
-{
-    match a {
-        EventAnswer::Done => 0,
-        EventAnswer::Refused(x) => record_ops::refusal_number(x),
     }
 }

@@ -24,8 +24,8 @@ use Rattle.record.specs.Record.{passes, recordSound, areaIn, areaOf, needIn, ne
 use Rattle.record.proofs.Areas.{area-within, below-six}
 use Rattle.record.proofs.Rows.{none-refused, unlike}
 use Rattle.record.proofs.Passing.{record-is-sound, waiting-fits}
-use Rattle.host_rules.specs.declared.EventAnswer.{EventAnswer}
-use Rattle.host_rules.specs.declared.EventAnswer.the-variants as happened
+use Rattle.record.specs.declared.Reply.{Reply}
+use Rattle.record.specs.declared.Reply.the-variants as reply
 use Rattle.host_rules.specs.declared.CollectAnswer.{CollectAnswer}
 use Rattle.host_rules.specs.declared.CollectAnswer.the-variants as collect
 use Rattle.host_rules.specs.declared.CollectCalled.{CollectCalled}
@@ -45,10 +45,10 @@ admitted k e m p =
 
 -- the two answers of an event that gives no value, and what each leaves of what was lent
 module _ {t u : Admission} where
-  pub refusing : {x : Refusal} → t ≡ u → t ≡ Refused x → happened.Refused x ≡ answerBy u
+  pub refusing : {x : Refusal} → t ≡ u → t ≡ Refused x → reply.Refused x ≡ answerBy u
   refusing is e = rw (sym is ∙ e)
 
-  pub doing : t ≡ u → t ≡ Clear → happened.Done ≡ answerBy u
+  pub doing : t ≡ u → t ≡ Clear → reply.Done ≡ answerBy u
   doing is e = rw (sym is ∙ e)
 
   pub leaving : {x : Refusal} (r q : List ℕ) → t ≡ u → t ≡ Refused x → r ≡ leftBy u r q
@@ -62,7 +62,7 @@ module _ {t u : Admission} where
   pasting f b is e q v = rw (sym is ∙ e, ← q) v
 
 -- the record put together
-pub together : (k : Record) (t : Admission) (q : File) {a : EventAnswer} {w : File} → a ≡ answerBy t → w ≡ leftBy t (k .regs .words) q
+pub together : (k : Record) (t : Admission) (q : File) {a : Reply} {w : File} → a ≡ answerBy t → w ≡ leftBy t (k .regs .words) q
     → record { answer = a; «record» = withRegs k w } ≡ unless t k q
 together k t q says left = (λ i. record { answer = says i; «record» = withRegs k (left i) }) ∙ by t
   where
@@ -107,7 +107,7 @@ module _ (b : Board) (w : File) (f : Flags) (e n m : ℕ) where
       let fits : n ≤ s .size = rw q (ltb-false (areaIn b e Out .size) n long) in
       (omega (arith, below), omega (arith, fits, l), fits, omega (arith, h, enough))
 
-pub arriving : (k : Record) (e : ℕ) (b f : List ℕ) {a : EventAnswer} {w : File} {g : List ℕ}
+pub arriving : (k : Record) (e : ℕ) (b f : List ℕ) {a : Reply} {w : File} {g : List ℕ}
     → a ≡ answerBy (arrivalRefusalIn (k .regs .board) (k .regs .words) (k .irq) e (length b) (length f))
     → w ≡ leftBy (arrivalRefusalIn (k .regs .board) (k .regs .words) (k .irq) e (length b) (length f)) (k .regs .words) (arrived (k .regs .words) e (length b))
     → g ≡ leftBy (arrivalRefusalIn (k .regs .board) (k .regs .words) (k .irq) e (length b) (length f)) f (pasted f (areaIn (k .regs .board) e Out .start) b)

@@ -13,22 +13,22 @@ use Rattle.event_rules.specs.Events.{arrived, busReset, busSuspend, busResume, 
 use Rattle.record.specs.declared.Record.{Record}
 use Rattle.record.specs.declared.Admission.{Admission}
 use Rattle.record.specs.declared.Admission.the-variants.{Clear, Refused}
-use Rattle.record.specs.Record.{admissionNumber, recordSound, admissionBy, endpointsOf, areaOf, needOf}
+use Rattle.record.specs.Record.{admissionNumber, recordSound, admissionBy, endpointsOf, areaOf, needOf, replyNumber}
 use Rattle.record.specs.Rows.{Row, Given}
 use Rattle.record.proofs.Numbers.{not-zero}
 use Rattle.record.proofs.Rows.{exactly, none-left, tested, tells-under, tells-from, tells-is, tells-set, tells-clear, tells-bad, tells-either, first-named, first-plain}
 use Rattle.host_rules.specs.declared.CollectAnswer.the-variants as collect
 use Rattle.host_rules.specs.declared.CollectCalled.{CollectCalled}
-use Rattle.host_rules.specs.Host.{done, unless, busResetCall, suspendCall, resumeCall, setupEndCall, missRefusal, missCall, underrunCall, overrunCall, arrivalBy, arrivalRefusalIn, arrivalRefusal, unlessArrived, arrivalCall, collectionBy, collectionRefusalIn, collectionRefusal, collectedFrom, unlessCollected, collectionCall, eventNumber, collectNumber}
+use Rattle.host_rules.specs.Host.{done, unless, busResetCall, suspendCall, resumeCall, setupEndCall, missRefusal, missCall, underrunCall, overrunCall, arrivalBy, arrivalRefusalIn, arrivalRefusal, unlessArrived, arrivalCall, collectionBy, collectionRefusalIn, collectionRefusal, collectedFrom, unlessCollected, collectionCall, collectNumber}
 use Rattle.host_rules.specs.Replies.{plainRows, missRows, arrivalRows, collectionRows, Answers, Arrives, Collects}
 
 -- an event, by what its tests came to
 module _ (k : Record) (r : File) where
-  same-number : (t : Admission) → eventNumber (unless t k r .answer) ≡ admissionNumber t
+  same-number : (t : Admission) → replyNumber (unless t k r .answer) ≡ admissionNumber t
   same-number Clear = refl
   same-number (Refused x) = refl
 
-  kept : (t : Admission) → (eventNumber (unless t k r .answer) ≡ 0 → ⊥) → unless t k r .«record» ≡ k
+  kept : (t : Admission) → (replyNumber (unless t k r .answer) ≡ 0 → ⊥) → unless t k r .«record» ≡ k
   kept Clear n = absurd (n refl)
   kept (Refused x) n = refl
 

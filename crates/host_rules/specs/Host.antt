@@ -19,9 +19,9 @@ use Rattle.record.specs.declared.Refusal.the-variants.{TooLong, OutOfTurn}
 use Rattle.record.specs.declared.Admission.{Admission}
 use Rattle.record.specs.declared.Admission.the-variants.{Clear, Refused}
 use Rattle.record.specs.Record.{passes, recordSound, admissionBy, endpointsIn, areaIn, areaOf, needIn, needOf, refusalNumber, withRegs}
-use Rattle.host_rules.specs.declared.EventAnswer.{EventAnswer}
-use Rattle.host_rules.specs.declared.EventAnswer.the-variants as happened
-use Rattle.host_rules.specs.declared.EventCalled.{EventCalled}
+use Rattle.record.specs.declared.Reply.{Reply}
+use Rattle.record.specs.declared.Reply.the-variants as reply
+use Rattle.record.specs.declared.Answered.{Answered}
 use Rattle.host_rules.specs.declared.Signal.{Signal}
 use Rattle.host_rules.specs.declared.Signal.the-variants.{Bus, SetupEnd}
 use Rattle.host_rules.specs.declared.CollectAnswer.{CollectAnswer}
@@ -29,17 +29,17 @@ use Rattle.host_rules.specs.declared.CollectAnswer.the-variants as colle
 use Rattle.host_rules.specs.declared.CollectCalled.{CollectCalled}
 
 -- document 01: "A refusal returns its number and changes nothing"
-abbrev pub refused : Record → Refusal → EventCalled
-refused k x = record { answer = happened.Refused x; «record» = k }
+abbrev pub refused : Record → Refusal → Answered
+refused k x = record { answer = reply.Refused x; «record» = k }
 
 -- the registers are all that an event changes
-abbrev pub done : Record → File → EventCalled
-done k r = record { answer = happened.Done; «record» = withRegs k r }
+abbrev pub done : Record → File → Answered
+done k r = record { answer = reply.Done; «record» = withRegs k r }
 
 -- the tests decide first: what is answered,
-abbrev pub answerBy : Admission → EventAnswer
-answerBy (Refused x) = happened.Refused x
-answerBy Clear = happened.Done
+abbrev pub answerBy : Admission → Reply
+answerBy (Refused x) = reply.Refused x
+answerBy Clear = reply.Done
 
 -- what is left of a lent list of numbers, the registers or the FIFO buffer, that was r and becomes q,
 abbrev pub leftBy : Admission → List ℕ → List ℕ → List ℕ
@@ -47,7 +47,7 @@ leftBy (Refused x) r q = r
 leftBy Clear r q = q
 
 -- and both, on the whole record
-abbrev pub unless : Admission → Record → File → EventCalled
+abbrev pub unless : Admission → Record → File → Answered
 unless (Refused x) k r = refused k x
 unless Clear k r = done k r
 
@@ -57,16 +57,16 @@ signalled (Bus o) r = busRaised o r
 signalled SetupEnd r = setupEnded r
 
 -- 16 alone can refuse them
-unfoldable pub busResetCall : Record → EventCalled
+unfoldable pub busResetCall : Record → Answered
 busResetCall k = unless (admissionBy false (recordSound k) false) k (busReset (k .regs .words))
 
-unfoldable pub suspendCall : Record → EventCalled
+unfoldable pub suspendCall : Record → Answered
 suspendCall k = unless (admissionBy false (recordSound k) false) k (busSuspend (k .regs .words))
 
-unfoldable pub resumeCall : Record → EventCalled
+unfoldable pub resumeCall : Record → Answered
 resumeCall k = unless (admissionBy false (recordSound k) false) k (busResume (k .regs .words))
 
-unfoldable pub setupEndCall : Record → EventCalled
+unfoldable pub setupEndCall : Record → Answered
 setupEndCall k = unless (admissionBy false (recordSound k) false) k (setupEnded (k .regs .words))
 
 -- reply 8: "endpoint 6 or more", the board's own last endpoint being the highest, "(underrun, overrun: also 0)"
@@ -76,14 +76,14 @@ missRefusalIn b w f e = admissionBy false (passes b w f) (eqb e 0 || leb (endpoi
 abbrev pub missRefusal : Record → ℕ → Admission
 missRefusal k e = missRefusalIn (k .regs .board) (k .regs .words) (k .irq) e
 
-unfoldable pub missCall : Record → ℕ → Direction → EventCalled
+unfoldable pub missCall : Record → ℕ → Direction → Answered
 missCall k e d = unless (missRefusal k e) k (missing (k .regs .words) e d)
 
 -- "underrun, overrun (set UnderRun or OverRun, raise nothing)"
-unfoldable pub underrunCall : Record → ℕ → EventCalled
+unfoldable pub underrunCall : Record → ℕ → Answered
 underrunCall k e = missCall k e In
 
-unfoldable pub overrunCall : Record → ℕ → EventCalled
+unfoldable pub overrunCall : Record → ℕ → Answered
 overrunCall k e = missCall k e Out
 
 -- the first tests of an event at an endpoint that is lent m bytes of FIFO memory: 15, 16, 8
@@ -114,7 +114,7 @@ arrivalRefusal k e n m = arrivalRefusalIn (k .regs .board) (k .regs .words) (k .
 
 -- all that an arrival leaves: what it gives back, and the lent FIFO buffer
 pub record Arrival : Type 0 where
-  pub event : EventCalled
+  pub event : Answered
   pub fifo : List ℕ
 
 abbrev pub unlessArrived : Admission → Record → List ℕ → Arrival → Arrival
@@ -163,11 +163,7 @@ abbrev pub InBuffer : CollectAnswer → List ℕ → Type 0
 InBuffer (collect.Done start len) f = start + len ≤ length f
 InBuffer (collect.Refused x) f = Unit
 
--- document 01's number of an answer, and its values: for a collection the bytes
-abbrev pub eventNumber : EventAnswer → ℕ
-eventNumber happened.Done = 0
-eventNumber (happened.Refused x) = refusalNumber x
-
+-- document 01's number of a collection's answer, and its values, the bytes
 abbrev pub collectNumber : CollectAnswer → ℕ
 collectNumber (collect.Done start len) = 0
 collectNumber (collect.Refused x) = refusalNumber x

@@ -8,12 +8,12 @@ use mathlib.Core.List.{List, [], _∷_}
 use Rattle.board.specs.declared.Direction.the-variants.{Out, In}
 use Rattle.register_file.specs.Registers.{sideAt}
 use Rattle.record.specs.declared.Record.{Record}
-use Rattle.record.specs.Record.{endpointsOf, areaOf, needOf, SoundRecord}
+use Rattle.record.specs.Record.{endpointsOf, areaOf, needOf, SoundRecord, replyNumber}
 use Rattle.record.specs.Rows.{Row, row, Replies}
 use Rattle.host_rules.specs.declared.CollectAnswer.the-variants as collect
-use Rattle.host_rules.specs.declared.EventCalled.{EventCalled}
+use Rattle.record.specs.declared.Answered.{Answered}
 use Rattle.host_rules.specs.declared.CollectCalled.{CollectCalled}
-use Rattle.host_rules.specs.Host.{Arrival, eventNumber, collectNumber}
+use Rattle.host_rules.specs.Host.{Arrival, collectNumber}
 
 -- the rows of each event, in document 01's order, "15, 16, 8, then .. arrival 9, 17". What is not at an endpoint:
 abbrev pub plainRows : Record → List Row
@@ -45,14 +45,14 @@ collectionRows k e m =
 
 -- an event's answer: its number is given exactly when its row is the first that holds, 0 where none does; a refused event leaves the record as
 -- it was
-pub record Answers (a : EventCalled) (k : Record) (rs : List Row) : Type 0 where
-  pub replies : Replies (eventNumber (a .answer)) rs
-  pub unchanged : (eventNumber (a .answer) ≡ 0 → ⊥) → a .«record» ≡ k
+pub record Answers (a : Answered) (k : Record) (rs : List Row) : Type 0 where
+  pub replies : Replies (replyNumber (a .answer)) rs
+  pub unchanged : (replyNumber (a .answer) ≡ 0 → ⊥) → a .«record» ≡ k
 
 -- arrival: its event answers as the others do, and the FIFO buffer of a refused one stays
 pub record Arrives (o : Arrival) (k : Record) (f : List ℕ) (rs : List Row) : Type 0 where
   pub event : Answers (o .event) k rs
-  pub kept : (eventNumber (o .event .answer) ≡ 0 → ⊥) → o .fifo ≡ f
+  pub kept : (replyNumber (o .event .answer) ≡ 0 → ⊥) → o .fifo ≡ f
 
 -- collection, whose answer has values: "the packet's place in the FIFO buffer and its length"
 pub record Collects (a : CollectCalled) (k : Record) (rs : List Row) (start len : ℕ) : Type 0 where

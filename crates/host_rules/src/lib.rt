@@ -4,17 +4,6 @@ use event_rules::BusEvent;
 use record::Record;
 use record::Refusal;
 
-// The answer of an event that gives no value.
-pub enum EventAnswer {
-    Done,
-    Refused(Refusal),
-}
-
-pub struct EventCalled {
-    pub record: Record,
-    pub answer: EventAnswer,
-}
-
 // The answer of a collection: where the packet stands in the FIFO buffer, start and length.
 pub enum CollectAnswer {
     Done(usize, usize),

@@ -6,8 +6,6 @@ ghost use mathlib.Core.Bool.{cond};
 ghost use Prim.Native.Nat.{_+_, _*_, _≤_, _<_};
 ghost use lib.ListN.{length};
 ghost use Rattle.laws.specs.Words.{clear, Lowest};
-ghost use Rattle.board.specs.declared.Direction.the-variants.{Out};
-ghost use Rattle.register_file.specs.Registers.{sideAt};
 ghost use Rattle.store_rules.specs.Stores.{log};
 ghost use Rattle.round_rules.specs.Walk.{walkOf, walked};
 
@@ -37,14 +35,6 @@ fn drain(flags: u16, out: u16, e: u8, ready: bool) -> u16
     without(flags, e)
 }
 
-// RxPktRdy of an endpoint.
-fn received(w: &[u16; 46], e: u8) -> bool
-    ensures { λ b. ⌜ b ≡ sideAt (now (w .entry)) e Out .ready ⌝ }
-{
-    let s = regs::side_at(w, e as u16, Direction::Out);
-    s.ready
-}
-
 // The source's `for index in BitIter(rx_flags)`.
 pub fn walk(flags: u16, w: &mut [u16; 46], list: &mut [u16], n: usize) -> Walked
     requires { ⌜ (flags < 64) × (n * 3 + 18 ≤ length (now list)) ⌝ }
@@ -57,7 +47,7 @@ pub fn walk(flags: u16, w: &mut [u16; 46], list: &mut [u16], n: usize) -> Walked
         let e = lowest(rest);
         rest = without(rest, e);
         m = stores::write_index(w, list, m, e);
-        out = drain(flags, out, e, received(w, e));
+        out = drain(flags, out, e, regs::waits(w, e, Direction::Out));
     }
     Walked { n: m, out: out }
 }

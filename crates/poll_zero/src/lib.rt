@@ -1,4 +1,5 @@
 // What `poll` of the source does for endpoint 0: the packet that waits there, by the control state, and the Accepted step.
+use board::Direction;
 use control_state::ControlState;
 use control_state::ControlStateEnum;
 use csr::Csr0lSet;
@@ -31,7 +32,7 @@ fn take_setup(w: &mut [u16; 46], list: &mut [u16], n: usize, c: ControlState, f:
     requires { ⌜ (n * 3 + 3 ≤ length (now list)) × (f .«ep_rx» < 64) ⌝ }
     ensures { λ o. ⌜ (roundOf o (now (w .exit)) (now (list .exit)) ≡ setupTaken (log (now (w .entry)) (now (list .entry)) n) c f) × (o .n ≤ n + 1) × (o .irq .«ep_rx» < 64) ⌝ }
 {
-    if regs::read_count0(w) == 8 {
+    if regs::waiting_len(w, 0, Direction::Out) == 8 {
         let a = stores::modify_csr0l(w, list, n, Csr0lSet::ServicedSetupEnd);
         return Progress {
             n: a,
@@ -52,7 +53,7 @@ fn restart(w: &mut [u16; 46], list: &mut [u16], n: usize, c: ControlState, f: Fl
     requires { ⌜ (n * 3 + 3 ≤ length (now list)) × (f .«ep_rx» < 64) ⌝ }
     ensures { λ o. ⌜ (roundOf o (now (w .exit)) (now (list .exit)) ≡ restarted (log (now (w .entry)) (now (list .entry)) n) c f) × (o .n ≤ n + 1) × (o .irq .«ep_rx» < 64) ⌝ }
 {
-    let count = regs::read_count0(w);
+    let count = regs::waiting_len(w, 0, Direction::Out);
     let a = stores::modify_csr0l(w, list, n, Csr0lSet::ServicedSetupEnd);
     let i = c.set_state(ControlStateEnum::Idle).reset_tx_len();
     if count == 8 {

@@ -21,6 +21,8 @@ use Rattle.control_state.specs.declared.ControlState.{ControlState}
 use Rattle.record.specs.declared.Flags.{Flags}
 use Rattle.record.specs.declared.Refusal.{Refusal}
 use Rattle.record.specs.declared.Refusal.the-variants.{WouldBlock, Unsupported, NoSuchEndpoint, TooLong, NotWritable, NotReadable, NotSetup, BadAddress, TooLittleLent, BadRecord, OutOfTurn}
+use Rattle.record.specs.declared.Reply.{Reply}
+use Rattle.record.specs.declared.Reply.the-variants as reply
 use Rattle.record.specs.declared.Admission.{Admission}
 use Rattle.record.specs.declared.Admission.the-variants.{Clear, Refused}
 use Rattle.record.specs.declared.Record.{Record}
@@ -91,6 +93,10 @@ refusalNumber BadAddress = 14
 refusalNumber TooLittleLent = 15
 refusalNumber BadRecord = 16
 refusalNumber OutOfTurn = 17
+
+abbrev pub replyNumber : Reply → ℕ
+replyNumber reply.Done = 0
+replyNumber (reply.Refused x) = refusalNumber x
 
 -- "Order: 15, 16, 8": lent too little, the record does not pass, endpoint beyond the last
 abbrev pub admissionBy : Bool → Bool → Bool → Admission

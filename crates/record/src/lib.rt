@@ -48,6 +48,19 @@ pub enum Refusal {
     OutOfTurn,
 }
 
+// The answer of a call or event that has no value.
+pub enum Reply {
+    Done,
+    Refused(Refusal),
+}
+
+// What is given back where no value is and no store is made: by the host's events and `on_interrupt`. The record stands first: so it is copied in
+// one go (bench/RESULTS.md).
+pub struct Answered {
+    pub record: Record,
+    pub answer: Reply,
+}
+
 // What every call tests first.
 pub enum Admission {
     Clear,

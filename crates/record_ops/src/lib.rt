@@ -7,9 +7,10 @@ use record::Admission;
 use record::Flags;
 use record::Record;
 use record::Refusal;
+use record::Reply;
 ghost use mathlib.Core.Path.{_≡_};
 ghost use Prim.Native.Nat.{_+_, _≤_, _<_};
-ghost use Rattle.record.specs.Record.{freshRecord, areaIn, needIn, flagsSound, passes, refusalNumber, admissionBy, endpointsIn};
+ghost use Rattle.record.specs.Record.{freshRecord, areaIn, needIn, flagsSound, passes, refusalNumber, replyNumber, admissionBy, endpointsIn};
 
 pub fn refusal_number(x: Refusal) -> u8
     ensures { λ n. ⌜ n ≡ refusalNumber x ⌝ }
@@ -26,6 +27,16 @@ pub fn refusal_number(x: Refusal) -> u8
         Refusal::TooLittleLent => 15,
         Refusal::BadRecord => 16,
         Refusal::OutOfTurn => 17,
+    }
+}
+
+// Document 01's number of an answer.
+pub fn reply_number(a: Reply) -> u8
+    ensures { λ n. ⌜ n ≡ replyNumber a ⌝ }
+{
+    match a {
+        Reply::Done => 0,
+        Reply::Refused(x) => refusal_number(x),
     }
 }
 

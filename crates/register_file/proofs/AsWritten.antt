@@ -116,7 +116,7 @@ zero-reads r = (refl, refl, refl, refl, refl)
 
 -- "Counts are the waiting packet's length, 0 if none.", of a file that passes reply 16's test
 pub count0-none : (sizes : List ℕ) (n : ℕ) (r : File) → Sound sizes n r → csr0lRead r .«rx_pkt_rdy» ≡ false → count0 r ≡ 0
-unfolding csr0lRead count0
+unfolding csr0lRead
 count0-none sizes n r k e = k .side 0 Out .none e
 
 pub rxcount-none : (sizes : List ℕ) (n : ℕ) (r : File) → Sound sizes n r → rxcsrlRead r .«rx_pkt_rdy» ≡ false → rxcount r ≡ 0

@@ -26,7 +26,6 @@ module _ (r : File) where
   zero-rx-ready = refl
 
   pub zero-count : count0 r ≡ sideAt r 0 Out .len
-  unfolding count0
   zero-count = refl
 
   pub tx-ready : txcsrlRead r .«tx_pkt_rdy» ≡ chosen r In .ready

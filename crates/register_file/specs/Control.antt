@@ -34,7 +34,7 @@ rxcsrlRead r = rxcsrlOf (chosen r Out)
 
 -- "Counts are the waiting packet's length, 0 if none": a length is 0 where no packet waits, or the record is refused (reply 16); that is
 -- `count0-none` and `rxcount-none` of proofs/AsWritten.antt
-unfoldable pub count0 : File → ℕ
+abbrev pub count0 : File → ℕ
 count0 r = sideAt r 0 Out .len
 
 unfoldable pub rxcount : File → ℕ

@@ -12,7 +12,7 @@ use register_file::Regs;
 ghost use mathlib.Core.Path.{_≡_};
 ghost use Prim.Native.Nat.{_<_};
 ghost use Rattle.register_file.specs.Registers.{freshRegs, sideWord, sideIn, withSideIn, sideAt, withSide};
-ghost use Rattle.register_file.specs.Control.{csr0lRead, txcsrlRead, rxcsrlRead, count0, csr0lStored, csr0hFlushed};
+ghost use Rattle.register_file.specs.Control.{csr0lRead, txcsrlRead, rxcsrlRead, csr0lStored, csr0hFlushed};
 ghost use Rattle.register_file.specs.Sound.{wordsBelow, sidesBelow, regsSound};
 
 // Places in the array: the registers that are there once; of the interrupt registers what is raised and not read yet (of the bus suspend is
@@ -101,6 +101,22 @@ pub fn side_at(w: &[u16; 46], e: u16, d: Direction) -> Side
     csr_ops::no_side()
 }
 
+// Whether a packet waits at a side.
+pub fn waits(w: &[u16; 46], e: u8, d: Direction) -> bool
+    ensures { λ b. ⌜ b ≡ sideAt (now (w .entry)) e d .ready ⌝ }
+{
+    let s = side_at(w, e as u16, d);
+    s.ready
+}
+
+// The waiting packet's length.
+pub fn waiting_len(w: &[u16; 46], e: u8, d: Direction) -> u16
+    ensures { λ n. ⌜ n ≡ sideAt (now (w .entry)) e d .len ⌝ }
+{
+    let s = side_at(w, e as u16, d);
+    s.len
+}
+
 // Another state of a side. Past the last endpoint nothing changes.
 pub fn put_side(w: &mut [u16; 46], e: u16, d: Direction, s: Side)
     ensures { λ _. ⌜ now (w .exit) ≡ withSide (now (w .entry)) e d s ⌝ }
@@ -139,13 +155,6 @@ pub fn read_rxcsrl(w: &[u16; 46]) -> Rxcsrl
     ensures { λ v. ⌜ v ≡ rxcsrlRead (now (w .entry)) ⌝ }
 {
     csr_ops::rxcsrl_of(side_at(w, w[INDEX], Direction::Out))
-}
-
-pub fn read_count0(w: &[u16; 46]) -> u16
-    ensures { λ n. ⌜ n ≡ count0 (now (w .entry)) ⌝ }
-{
-    let s = side_at(w, 0, Direction::Out);
-    s.len
 }
 
 // What a store to CSR0L changes.

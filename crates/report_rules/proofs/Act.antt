@@ -9,10 +9,10 @@ use mathlib.Core.List.{List, [], _∷_}
 use lib.ListN.{length, take, drop, replicate, length-take, length-drop, length-replicate}
 use Rattle.board.specs.declared.Direction.the-variants.{Out}
 use Rattle.record.specs.declared.Record.{Record}
-use Rattle.record.specs.Record.{recordSound}
+use Rattle.record.specs.Record.{recordSound, replyNumber}
 use Rattle.record.proofs.Areas.{area-within}
 use Rattle.record.proofs.Passing.{record-is-sound, waiting-fits}
-use Rattle.transfer_rules.specs.Peek.{short, rxCount}
+use Rattle.transfer_rules.specs.Peek.{short}
 use Rattle.transfer_rules.proofs.Lent.{lent-enough}
 use Rattle.call_rules.specs.declared.AllocCalled.{AllocCalled}
 use Rattle.call_rules.specs.declared.Called.{Called}
@@ -36,9 +36,7 @@ use Rattle.transfer_rules.specs.ReadTests.{waiting}
 use Rattle.transfer_rules.proofs.ReadAnswers as read-answers
 use Rattle.round_rules.specs.declared.PollCalled.{PollCalled}
 use Rattle.round_rules.specs.Poll.{PollOutcome, pollNumber, pollValues}
-use Rattle.call_rules.specs.declared.InterruptCalled.{InterruptCalled}
-use Rattle.call_rules.specs.Interrupt.{interruptNumber}
-use Rattle.host_rules.specs.declared.EventCalled.{EventCalled}
+use Rattle.record.specs.declared.Answered.{Answered}
 use Rattle.host_rules.specs.declared.CollectCalled.{CollectCalled}
 use Rattle.host_rules.specs.Host as host
 use Rattle.calls.specs.Calls as calls
@@ -93,7 +91,7 @@ module _ {b a : List ℕ} {r : Acted} {code : ℕ} where
       (record { kept = λ i. state (g .kept i) (m c .0) (m c .1); counted = g .counted; shown = g .shown })
 
   module _ (f : List ℕ) {l : List ℕ} where
-    pub by-called : {x : Called} {o : impl.CallOutcome} → record { call = x; list = l } ≡ o → Gives b a r code (x .«record») (x .stores) (impl.replyNumber (x .answer)) []
+    pub by-called : {x : Called} {o : impl.CallOutcome} → record { call = x; list = l } ≡ o → Gives b a r code (x .«record») (x .stores) (replyNumber (x .answer)) []
         → Acts b a r f l code (left (f, o .list) (calls.called o))
     by-called e g = by (λ o. (f, o .list)) (ap calls.called e) g
 
@@ -114,14 +112,11 @@ module _ {b a : List ℕ} {r : Acted} {code : ℕ} where
         → Gives b a r code (x .«record») 0 (impl-alloc.allocNumber (x .answer)) (impl-alloc.allocValues (x .answer)) → Acts b a r f l code (left (f, l) (calls.allocated o))
     by-allocated e g = by (λ o. (f, l)) (ap calls.allocated e) g
 
-    pub by-interrupted : {x o : InterruptCalled} → x ≡ o → Gives b a r code (x .«record») 0 (interruptNumber (x .answer)) [] → Acts b a r f l code (left (f, l) (calls.interrupted o))
-    by-interrupted e g = by (λ o. (f, l)) (ap calls.interrupted e) g
+    pub by-answered : {x o : Answered} → x ≡ o → Gives b a r code (x .«record») 0 (replyNumber (x .answer)) [] → Acts b a r f l code (left (f, l) (calls.answered o))
+    by-answered e g = by (λ o. (f, l)) (ap calls.answered e) g
 
-    pub by-happened : {x o : EventCalled} → x ≡ o → Gives b a r code (x .«record») 0 (host.eventNumber (x .answer)) [] → Acts b a r f l code (left (f, l) (calls.happened o))
-    by-happened e g = by (λ o. (f, l)) (ap calls.happened e) g
-
-    pub by-bus : (k : Record) (x : EventCalled) (e : BusEvent) → calls.happened x ≡ calls.outcome k (busOperation e)
-        → Gives b a r code (x .«record») 0 (host.eventNumber (x .answer)) [] → Acts b a r f l code (did (state k f l) (busOperation e))
+    pub by-bus : (k : Record) (x : Answered) (e : BusEvent) → calls.answered x ≡ calls.outcome k (busOperation e)
+        → Gives b a r code (x .«record») 0 (replyNumber (x .answer)) [] → Acts b a r f l code (did (state k f l) (busOperation e))
     by-bus k x bus.Reset e g = by (λ o. (f, l)) e g
     by-bus k x bus.Suspend e g = by (λ o. (f, l)) e g
     by-bus k x bus.Resume e g = by (λ o. (f, l)) e g
@@ -138,8 +133,8 @@ module _ {b a : List ℕ} {r : Acted} {code : ℕ} where
     by-written l e g =
         by (λ o. (o .fifo, o .list)) (ap calls.written (e ∙ ap (λ (p : List ℕ). writeCall k ep p f l) (handed-on s start n))) g
 
-    pub by-arrived : (l : List ℕ) {x : EventCalled} → record { event = x; fifo = f′ } ≡ host.arrivalCall k ep (take (start + n - start) (drop start s)) f
-        → Gives b a r code (x .«record») 0 (host.eventNumber (x .answer)) [] → Acts b a r f′ l code (did (state k f l) (operation s (Arrival ep start n) f l))
+    pub by-arrived : (l : List ℕ) {x : Answered} → record { event = x; fifo = f′ } ≡ host.arrivalCall k ep (take (start + n - start) (drop start s)) f
+        → Gives b a r code (x .«record») 0 (replyNumber (x .answer)) [] → Acts b a r f′ l code (did (state k f l) (operation s (Arrival ep start n) f l))
     by-arrived l e g =
         by (λ o. (o .fifo, l)) (ap calls.arrived (e ∙ ap (λ (p : List ℕ). host.arrivalCall k ep p f) (handed-on s start n))) g
 
@@ -169,7 +164,7 @@ wrote-fits k ep s start n f l {x} e h = go (x .answer) (λ i. e i .result .answe
 -- a read's count is the waiting packet's length, and a record that passes reply 16 holds no packet longer than its area
 module _ (k : Record) (ep : ℕ) (buf f l : List ℕ) where
   waiting-in : short k (length f) (length l) ≡ false → recordSound k ≡ true → waiting k ep ≤ length f
-  unfolding waiting rxCount
+  unfolding waiting
   waiting-in s p =
       let fits = waiting-fits k (record-is-sound k p) ep Out in
       let in-area = area-within k ep Out in

@@ -20,9 +20,6 @@ use Rattle.call_rules.specs.declared.StalledAnswer.{StalledAnswer}
 use Rattle.call_rules.specs.declared.StalledAnswer.the-variants as told
 use Rattle.call_rules.specs.Alloc.{allocNumber, allocValues}
 use Rattle.call_rules.specs.Stall.{stalledNumber, stalledValues}
-use Rattle.call_rules.specs.declared.InterruptAnswer.{InterruptAnswer}
-use Rattle.call_rules.specs.declared.InterruptAnswer.the-variants as interrupted
-use Rattle.call_rules.specs.Interrupt.{interruptNumber}
 use Rattle.transfer_rules.specs.declared.WriteAnswer as write
 use Rattle.transfer_rules.specs.declared.WriteAnswer.the-variants as wrote
 use Rattle.transfer_rules.specs.WriteZero.{writeNumber, writeValues}
@@ -53,12 +50,6 @@ module _ {b a : List ℕ} {r code : ℕ} where
 
   one : {v x : ℕ} → v ≡ x → Wrote b a 0 r (line (code ∷ 0 ∷ v ∷ [])) → r ≤ 100 → 100 ≤ length b → Shows b a r code 0 (x ∷ [])
   one e w h room = shows 100 (λ i. 0) (λ i. e i ∷ []) w h room
-
-  pub taken-in : {y : InterruptAnswer} → y ≡ interrupted.Done → Wrote b a 0 r (line (code ∷ 0 ∷ [])) → r ≤ 100 → 100 ≤ length b → Shows b a r code (interruptNumber y) []
-  taken-in e w h room = rw e (plain (λ i. 0) w h room)
-
-  pub not-taken-in : {y : InterruptAnswer} {x : Refusal} → y ≡ interrupted.Refused x → Shows b a r code (refusalNumber x) [] → Shows b a r code (interruptNumber y) []
-  not-taken-in e s = rw e s
 
   pub allocated : {y : AllocAnswer} {n v : ℕ} → y ≡ allocation.Done n → v ≡ n → Wrote b a 0 r (line (code ∷ 0 ∷ v ∷ [])) → r ≤ 100 → 100 ≤ length b
       → Shows b a r code (allocNumber y) (allocValues y)

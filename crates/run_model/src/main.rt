@@ -126,12 +126,6 @@ fn changed(w: &mut [u16; 46], list: &mut [u16], code: u8, e: u8, v: u16) -> usiz
     }
 }
 
-fn least(a: usize, b: usize) -> usize
-    ensures { λ r. ⌜ (r ≤ a) × (r ≤ b) ⌝ }
-{
-    if a < b { a } else { b }
-}
-
 // The bytes of the driver's packet go to the selected endpoint's area, and its store comes after. One that does not fit changes nothing.
 fn put_packet(w: &[u16; 46], bytes: &[u8], fifo: &mut [u8])
     requires { ⌜ 1664 ≤ length (now fifo) ⌝ }
@@ -200,8 +194,8 @@ fn word(w: &mut [u16; 46], code: u8) -> u16 {
 fn taken(w: &[u16; 46], e: u8, d: Direction, v: u16, fifo: &[u8; 1664]) -> [u8; 8] {
     let mut out = [255u8; 8];
     let from = board::area(Board::Display, e, d);
-    let n = least(events::waiting_len(w, e, d) as usize, from.size);
-    let k = least(v as usize, 8);
+    let n = trace_text::least(regs::waiting_len(w, e, d) as usize, from.size);
+    let k = trace_text::least(v as usize, 8);
     fifo::take_bytes(fifo, from, n, &mut out[..k]);
     out
 }
@@ -273,7 +267,7 @@ fn act(script: &[u8], at: usize, r: Regs, list: &mut [u16; 384], fifo: &mut [u8;
     let e = script[at + 1];
     let v = wide(script[at + 2]) + 256 * wide(script[at + 3]);
     let from = wide(script[at + 4]) as usize;
-    let to = from + least(v as usize, 512);
+    let to = from + trace_text::least(v as usize, 512);
     let q = begun(code, r);
     let b = q.board;
     let mut w = q.words;

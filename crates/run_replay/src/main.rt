@@ -28,7 +28,7 @@ fn put_many(s: &[u8], detail: bool)
     let mut at: usize = 0;
     while at + 4 <= s.len() {
         let start = at + 4;
-        let n = trace_reporter::least(length_at(s, at), s.len() - start);
+        let n = trace_text::least(length_at(s, at), s.len() - start);
         trace_reporter::put_fresh(&s[start..start + n], detail);
         at = start + n;
     }

@@ -12,12 +12,12 @@ ghost use mathlib.Core.Path.{_≡_};
 ghost use Prim.Native.Nat.{_+_, _*_, _≤_, _<_};
 ghost use lib.ListN.{length};
 ghost use Rattle.register_file.specs.Registers.{enabledOf, withEnabled};
-ghost use Rattle.store_rules.specs.Stores.{log, listing as noted, withOwn, writeFaddr, writePower, writeIndex, writeCsr0l, writeTxcsrl, writeRxcsrl, modifyCsr0l, modifyTxcsrl, modifyRxcsrl, flushCsr0h, writeIso, writeMaxp, writeIntrusbe, writeIntre, modifyIntre, writePacket};
+ghost use Rattle.store_rules.specs.Stores.{log, listing, withOwn, writeFaddr, writePower, writeIndex, writeCsr0l, writeTxcsrl, writeRxcsrl, modifyCsr0l, modifyTxcsrl, modifyRxcsrl, flushCsr0h, writeIso, writeMaxp, writeIntrusbe, writeIntre, modifyIntre, writePacket};
 
 // The store that left these registers, listed.
 fn note(w: &[u16; 46], list: &mut [u16], n: usize, register: u16, value: u16) -> usize
     requires { ⌜ n * 3 + 3 ≤ length (now list) ⌝ }
-    ensures { λ m. ⌜ (log (now (w .entry)) (now (list .exit)) m ≡ noted register value (now (w .entry)) (now (list .entry)) n) × (m ≡ n + 1) ⌝ }
+    ensures { λ m. ⌜ (log (now (w .entry)) (now (list .exit)) m ≡ listing register value (now (w .entry)) (now (list .entry)) n) × (m ≡ n + 1) ⌝ }
 {
     store_list::put(list, n, register, w[regs::INDEX], value)
 }

@@ -1,6 +1,6 @@
 // One entry of a trace, carried out: the call or event that it names, and its line of the report.
 use event_rules::BusEvent;
-use host_rules::EventCalled;
+use record::Answered;
 use record::Record;
 use report_rules::Acted;
 use trace_rules::Entry;
@@ -52,8 +52,8 @@ fn read(
     fetch(k, ep, fifo, list, &mut buf[..m], line, code)
 }
 
-fn bus(k: Record, b: BusEvent) -> EventCalled
-    ensures { λ r. ⌜ calls.happened r ≡ calls.outcome k (busOperation b) ⌝ }
+fn bus(k: Record, b: BusEvent) -> Answered
+    ensures { λ r. ⌜ calls.answered r ≡ calls.outcome k (busOperation b) ⌝ }
 {
     match b {
         BusEvent::Reset => host::bus_reset(k),
@@ -108,7 +108,7 @@ pub fn act(
             usb_device_stall::is_stalled(k, ep, d, list),
         ),
         Entry::Poll => trace_answers::polled(line, code, usb_device_poll::poll(k, list)),
-        Entry::Interrupt => trace_answers::interrupted(
+        Entry::Interrupt => trace_answers::answered(
             line,
             code,
             usb_device_interrupt::on_interrupt(k),
@@ -116,7 +116,7 @@ pub fn act(
         Entry::Enable => trace_answers::called(line, code, usb_device_impl::enable(k, list)),
         Entry::Arrival(ep, start, n) => {
             let end = start + n;
-            trace_answers::happened(line, code, host::arrival(k, ep, &trace[start..end], fifo))
+            trace_answers::answered(line, code, host::arrival(k, ep, &trace[start..end], fifo))
         }
         Entry::Collect(ep) => trace_answers::collected(
             line,
@@ -124,9 +124,9 @@ pub fn act(
             host::collection(k, ep, fifo),
             fifo,
         ),
-        Entry::Bus(b) => trace_answers::happened(line, code, bus(k, b)),
-        Entry::SetupEnd => trace_answers::happened(line, code, host::setup_end(k)),
-        Entry::Underrun(ep) => trace_answers::happened(line, code, host::underrun(k, ep)),
-        Entry::Overrun(ep) => trace_answers::happened(line, code, host::overrun(k, ep)),
+        Entry::Bus(b) => trace_answers::answered(line, code, bus(k, b)),
+        Entry::SetupEnd => trace_answers::answered(line, code, host::setup_end(k)),
+        Entry::Underrun(ep) => trace_answers::answered(line, code, host::underrun(k, ep)),
+        Entry::Overrun(ep) => trace_answers::answered(line, code, host::overrun(k, ep)),
     }
 }

@@ -3,16 +3,13 @@
 use call_rules::AllocAnswer;
 use call_rules::AllocCalled;
 use call_rules::Called;
-use call_rules::InterruptAnswer;
-use call_rules::InterruptCalled;
-use call_rules::Reply;
 use call_rules::StalledAnswer;
 use call_rules::StalledCalled;
 use host_rules::CollectAnswer;
 use host_rules::CollectCalled;
-use host_rules::EventAnswer;
-use host_rules::EventCalled;
+use record::Answered;
 use record::Refusal;
+use record::Reply;
 use report_rules::Acted;
 use round_rules::PollAnswer;
 use round_rules::PollCalled;
@@ -26,28 +23,14 @@ ghost use mathlib.Core.Bool.{cond};
 ghost use mathlib.Core.List.{[], _∷_};
 ghost use Prim.Native.Nat.{_+_, _*_, _≤_, _<_, _^_, min};
 ghost use lib.ListN.{length, take, drop};
-ghost use Rattle.record.specs.Record.{refusalNumber};
-ghost use Rattle.call_rules.specs.Calls.{replyNumber};
+ghost use Rattle.record.specs.Record.{refusalNumber, replyNumber};
 ghost use Rattle.call_rules.specs.Alloc.{allocNumber, allocValues};
 ghost use Rattle.call_rules.specs.Stall.{stalledNumber, stalledValues};
 ghost use Rattle.transfer_rules.specs.WriteZero.{writeNumber, writeValues};
 ghost use Rattle.transfer_rules.specs.ReadZero.{readNumber, readValues};
 ghost use Rattle.round_rules.specs.Poll.{pollNumber, pollValues, resultValues};
-ghost use Rattle.call_rules.specs.Interrupt.{interruptNumber};
-ghost use Rattle.host_rules.specs.Host.{eventNumber, collectNumber, collectValues, InBuffer};
+ghost use Rattle.host_rules.specs.Host.{collectNumber, collectValues, InBuffer};
 ghost use Rattle.report_rules.specs.Shown.{Shows, Gives, writeFits, readFits};
-
-fn wide(x: u8) -> u32
-    ensures { λ r. ⌜ r ≡ x ⌝ }
-{
-    x as u32
-}
-
-fn wide_mask(x: u16) -> u32
-    ensures { λ r. ⌜ r ≡ x ⌝ }
-{
-    x as u32
-}
 
 fn as_number(b: bool) -> u32
     ensures { λ r. ⌜ r ≡ cond b 1 0 ⌝ }
@@ -56,15 +39,6 @@ fn as_number(b: bool) -> u32
         return 1;
     }
     0
-}
-
-fn least(a: usize, b: usize) -> usize
-    ensures { λ r. ⌜ (r ≡ min a b) × (r ≤ b) ⌝ }
-{
-    if a < b {
-        return a;
-    }
-    b
 }
 
 fn show_refusal(line: &mut [u8], code: u8, x: Refusal) -> usize
@@ -78,24 +52,7 @@ fn show_reply(line: &mut [u8], code: u8, a: Reply) -> usize
     requires { ⌜ 100 ≤ length (now line) ⌝ }
     ensures { λ r. ⌜ Shows (now (line .entry)) (now (line .exit)) r code (replyNumber a) [] ⌝ }
 {
-    trace_report::reply_line(line, code, usb_device_impl::reply_number(a))
-}
-
-fn show_event(line: &mut [u8], code: u8, a: EventAnswer) -> usize
-    requires { ⌜ 100 ≤ length (now line) ⌝ }
-    ensures { λ r. ⌜ Shows (now (line .entry)) (now (line .exit)) r code (eventNumber a) [] ⌝ }
-{
-    trace_report::reply_line(line, code, host::happened_number(a))
-}
-
-fn show_interrupt(line: &mut [u8], code: u8, a: InterruptAnswer) -> usize
-    requires { ⌜ 100 ≤ length (now line) ⌝ }
-    ensures { λ r. ⌜ Shows (now (line .entry)) (now (line .exit)) r code (interruptNumber a) [] ⌝ }
-{
-    match a {
-        InterruptAnswer::Done => trace_report::reply_line(line, code, 0),
-        InterruptAnswer::Refused(x) => show_refusal(line, code, x),
-    }
+    trace_report::reply_line(line, code, record_ops::reply_number(a))
 }
 
 // "the endpoint"
@@ -104,7 +61,7 @@ fn show_alloc(line: &mut [u8], code: u8, a: AllocAnswer) -> usize
     ensures { λ r. ⌜ Shows (now (line .entry)) (now (line .exit)) r code (allocNumber a) (allocValues a) ⌝ }
 {
     match a {
-        AllocAnswer::Done(n) => trace_report::value_line(line, code, 0, wide(n)),
+        AllocAnswer::Done(n) => trace_report::value_line(line, code, 0, trace_text::wide(n)),
         AllocAnswer::NotGiven(x) => trace_report::reply_line(
             line,
             code,
@@ -140,7 +97,7 @@ fn show_stored(line: &mut [u8], code: u8, n: usize, buf: &[u8]) -> usize
     requires { ⌜ (100 + 4 * length (now buf) ≤ length (now line)) × (n < 2 ^ 32) ⌝ }
     ensures { λ r. ⌜ Shows (now (line .entry)) (now (line .exit)) r code 0 (n ∷ take (min n (length (now (buf .entry)))) (now (buf .entry))) ⌝ }
 {
-    let m = least(n, buf.len());
+    let m = trace_text::least(n, buf.len());
     trace_report::counted_line(line, code, 0, n as u32, &buf[..m])
 }
 
@@ -167,9 +124,9 @@ fn show_result(line: &mut [u8], code: u8, a: PollResult) -> usize
             code,
             0,
             1,
-            wide_mask(m.ep_out),
-            wide_mask(m.ep_in_complete),
-            wide_mask(m.ep_setup),
+            trace_text::wide_word(m.ep_out),
+            trace_text::wide_word(m.ep_in_complete),
+            trace_text::wide_word(m.ep_setup),
         ),
         PollResult::Reset => trace_report::value_line(line, code, 0, 2),
         PollResult::Resume => trace_report::value_line(line, code, 0, 3),
@@ -290,27 +247,13 @@ pub fn polled(line: &mut [u8], code: u8, o: PollCalled) -> Acted
     }
 }
 
-pub fn interrupted(line: &mut [u8], code: u8, o: InterruptCalled) -> Acted
+pub fn answered(line: &mut [u8], code: u8, o: Answered) -> Acted
     requires { ⌜ 100 ≤ length (now line) ⌝ }
-    ensures { λ r. ⌜ Gives (now (line .entry)) (now (line .exit)) r code (o .«record») 0 (interruptNumber (o .answer)) [] ⌝ }
+    ensures { λ r. ⌜ Gives (now (line .entry)) (now (line .exit)) r code (o .«record») 0 (replyNumber (o .answer)) [] ⌝ }
 {
     let a = o.answer;
     let k = o.record;
-    let len = show_interrupt(line, code, a);
-    Acted {
-        record: k,
-        stores: 0,
-        len,
-    }
-}
-
-pub fn happened(line: &mut [u8], code: u8, o: EventCalled) -> Acted
-    requires { ⌜ 100 ≤ length (now line) ⌝ }
-    ensures { λ r. ⌜ Gives (now (line .entry)) (now (line .exit)) r code (o .«record») 0 (eventNumber (o .answer)) [] ⌝ }
-{
-    let a = o.answer;
-    let k = o.record;
-    let len = show_event(line, code, a);
+    let len = show_reply(line, code, a);
     Acted {
         record: k,
         stores: 0,

@@ -5,6 +5,7 @@ use control_state::ControlState;
 use endpoints::EndpointData;
 use record::Flags;
 use record::Record;
+use trace_text::wide_word;
 ghost use mathlib.Core.Path.{_≡_};
 ghost use mathlib.Core.List.{_++_};
 ghost use Prim.Native.Nat.{_+_, _*_, _≤_, _<_};
@@ -13,23 +14,17 @@ ghost use Rattle.trace_rules.specs.Text.{Wrote, fields};
 ghost use Rattle.detail_rules.specs.DetailLines.{store, stores, storesLine, recordLine};
 ghost use Rattle.detail_rules.specs.DetailNumbers.{ofChip, shownAt, lengthsAt, ofData, ofEndpoint, ofEndpoints, ofFlags};
 
-fn wide(x: u16) -> u32
-    ensures { λ r. ⌜ (r ≡ x) × (r < 65536) ⌝ }
-{
-    x as u32
-}
-
 // A store, `register,endpoint,value`, with a blank before it.
 fn put_store(out: &mut [u8], at: usize, register: u16, endpoint: u16, value: u16) -> usize
     requires { ⌜ at + 33 ≤ length (now out) ⌝ }
     ensures { λ r. ⌜ Wrote (now (out .entry)) (now (out .exit)) at r (store register endpoint value) ⌝ }
     ensures { λ r. ⌜ r ≤ at + 18 ⌝ }
 {
-    let a = trace_text::put_field(out, at, wide(register));
+    let a = trace_text::put_field(out, at, wide_word(register));
     let b = trace_text::put_text(out, a, b",");
-    let c = trace_text::put_decimal(out, b, wide(endpoint));
+    let c = trace_text::put_decimal(out, b, wide_word(endpoint));
     let d = trace_text::put_text(out, c, b",");
-    trace_text::put_decimal(out, d, wide(value))
+    trace_text::put_decimal(out, d, wide_word(value))
 }
 
 // The first n stores of a list, three numbers a store.
@@ -62,16 +57,16 @@ fn of_chip(w: &[u16; 46]) -> [u32; 10]
     ensures { λ l. ⌜ l ≡ ofChip (now (w .entry)) ⌝ }
 {
     [
-        wide(w[regs::FADDR]),
-        wide(w[regs::POWER]),
-        wide(w[regs::INDEX]),
-        wide(w[regs::INTRTXE]),
-        wide(w[regs::INTRRXE]),
-        wide(w[regs::INTRUSBE]),
-        wide(w[regs::INTRUSB]),
-        wide(w[regs::INTRTX]),
-        wide(w[regs::INTRRX]),
-        wide(csr_ops::csr0l_number(regs::read_csr0l(w))),
+        wide_word(w[regs::FADDR]),
+        wide_word(w[regs::POWER]),
+        wide_word(w[regs::INDEX]),
+        wide_word(w[regs::INTRTXE]),
+        wide_word(w[regs::INTRRXE]),
+        wide_word(w[regs::INTRUSBE]),
+        wide_word(w[regs::INTRUSB]),
+        wide_word(w[regs::INTRTX]),
+        wide_word(w[regs::INTRRX]),
+        wide_word(csr_ops::csr0l_number(regs::read_csr0l(w))),
     ]
 }
 
@@ -85,12 +80,12 @@ fn shown_at(w: &[u16; 46], e: u16) -> [u32; 6]
     let tx = regs::side_at(w, e, Direction::In);
     let rx = regs::side_at(w, e, Direction::Out);
     [
-        wide(csr_ops::txcsrl_number(csr_ops::txcsrl_of(tx))),
-        wide(csr_ops::rxcsrl_number(csr_ops::rxcsrl_of(rx))),
-        wide(csr_ops::weight(tx.iso, 64)),
-        wide(csr_ops::weight(rx.iso, 64)),
-        wide(tx.maxp),
-        wide(rx.maxp),
+        wide_word(csr_ops::txcsrl_number(csr_ops::txcsrl_of(tx))),
+        wide_word(csr_ops::rxcsrl_number(csr_ops::rxcsrl_of(rx))),
+        wide_word(csr_ops::weight(tx.iso, 64)),
+        wide_word(csr_ops::weight(rx.iso, 64)),
+        wide_word(tx.maxp),
+        wide_word(rx.maxp),
     ]
 }
 
@@ -103,13 +98,13 @@ fn rest_at(w: &[u16; 46], e: u16, d: EndpointData) -> [u32; 7]
     let conf = d.ep_conf;
     let kind = conf.ep_type;
     [
-        wide(tx.len),
-        wide(rx.len),
+        wide_word(tx.len),
+        wide_word(rx.len),
         endpoint_ops::type_number(kind) as u32,
-        wide(conf.tx_max_packet_size),
-        wide(conf.rx_max_packet_size),
-        wide(csr_ops::weight(d.used_tx, 1)),
-        wide(csr_ops::weight(d.used_rx, 1)),
+        wide_word(conf.tx_max_packet_size),
+        wide_word(conf.rx_max_packet_size),
+        wide_word(csr_ops::weight(d.used_tx, 1)),
+        wide_word(csr_ops::weight(d.used_rx, 1)),
     ]
 }
 
@@ -121,12 +116,12 @@ fn of_flags(c: ControlState, f: Flags) -> [u32; 8]
     [
         control_state::number(state) as u32,
         c.tx_len,
-        wide(csr_ops::weight(f.reset, 1)),
-        wide(csr_ops::weight(f.suspend, 1)),
-        wide(csr_ops::weight(f.resume, 1)),
-        wide(csr_ops::weight(f.ep0, 1)),
-        wide(f.ep_tx),
-        wide(f.ep_rx),
+        wide_word(csr_ops::weight(f.reset, 1)),
+        wide_word(csr_ops::weight(f.suspend, 1)),
+        wide_word(csr_ops::weight(f.resume, 1)),
+        wide_word(csr_ops::weight(f.ep0, 1)),
+        wide_word(f.ep_tx),
+        wide_word(f.ep_rx),
     ]
 }
 

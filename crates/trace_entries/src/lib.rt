@@ -7,7 +7,7 @@ use trace_rules::Number;
 use trace_rules::Parsed;
 use trace_rules::Two;
 ghost use mathlib.Core.Path.{_≡_};
-ghost use Rattle.trace_rules.specs.Entries.{allocateAt, addressAt, writeAt, readAt, stallAt, isStalledAt, arrivalAt, collectAt, busAt, underrunAt, overrunAt, codeAt, entryAt, codeOf};
+ghost use Rattle.trace_rules.specs.Entries.{allocateAt, oneAt, oneOf, writeAt, readAt, stallAt, isStalledAt, arrivalAt, busAt, codeAt, entryAt, codeOf};
 
 fn allocate_at(s: &[u8], at: usize) -> Parsed
     ensures { λ r. ⌜ r ≡ allocateAt (now (s .entry)) at ⌝ }
@@ -29,11 +29,23 @@ fn allocate_at(s: &[u8], at: usize) -> Parsed
     }
 }
 
-fn address_at(s: &[u8], at: usize) -> Parsed
-    ensures { λ r. ⌜ r ≡ addressAt (now (s .entry)) at ⌝ }
+fn one_of(code: u16, a: u8) -> Entry
+    ensures { λ r. ⌜ r ≡ oneOf code a ⌝ }
+{
+    match code {
+        4 => Entry::Address(a),
+        13 => Entry::Collect(a),
+        16 => Entry::Underrun(a),
+        _ => Entry::Overrun(a),
+    }
+}
+
+// An entry with one argument, an address or an endpoint.
+fn one_at(s: &[u8], code: u16, at: usize) -> Parsed
+    ensures { λ r. ⌜ r ≡ oneAt (oneOf code) (now (s .entry)) at ⌝ }
 {
     match trace_arguments::arg_at(s, at, 255) {
-        Arg::Got(a, past) => Parsed::Found(Entry::Address(trace_arguments::narrow(a)), past),
+        Arg::Got(a, past) => Parsed::Found(one_of(code, trace_arguments::narrow(a)), past),
         Arg::No => Parsed::Bad,
     }
 }
@@ -96,38 +108,11 @@ fn arrival_at(s: &[u8], at: usize) -> Parsed
     }
 }
 
-fn collect_at(s: &[u8], at: usize) -> Parsed
-    ensures { λ r. ⌜ r ≡ collectAt (now (s .entry)) at ⌝ }
-{
-    match trace_arguments::arg_at(s, at, 255) {
-        Arg::Got(a, past) => Parsed::Found(Entry::Collect(trace_arguments::narrow(a)), past),
-        Arg::No => Parsed::Bad,
-    }
-}
-
 fn bus_at(s: &[u8], at: usize) -> Parsed
     ensures { λ r. ⌜ r ≡ busAt (now (s .entry)) at ⌝ }
 {
     match trace_arguments::arg_at(s, at, 2) {
         Arg::Got(a, past) => Parsed::Found(Entry::Bus(trace_arguments::bus_of(a)), past),
-        Arg::No => Parsed::Bad,
-    }
-}
-
-fn underrun_at(s: &[u8], at: usize) -> Parsed
-    ensures { λ r. ⌜ r ≡ underrunAt (now (s .entry)) at ⌝ }
-{
-    match trace_arguments::arg_at(s, at, 255) {
-        Arg::Got(a, past) => Parsed::Found(Entry::Underrun(trace_arguments::narrow(a)), past),
-        Arg::No => Parsed::Bad,
-    }
-}
-
-fn overrun_at(s: &[u8], at: usize) -> Parsed
-    ensures { λ r. ⌜ r ≡ overrunAt (now (s .entry)) at ⌝ }
-{
-    match trace_arguments::arg_at(s, at, 255) {
-        Arg::Got(a, past) => Parsed::Found(Entry::Overrun(trace_arguments::narrow(a)), past),
         Arg::No => Parsed::Bad,
     }
 }
@@ -140,7 +125,7 @@ fn code_at(s: &[u8], code: u16, at: usize) -> Parsed
         1 => allocate_at(s, at),
         2 => Parsed::Found(Entry::Init, at),
         3 => Parsed::Found(Entry::Reset, at),
-        4 => address_at(s, at),
+        4 => one_at(s, 4, at),
         5 => write_at(s, at),
         6 => read_at(s, at),
         7 => stall_at(s, at),
@@ -149,11 +134,11 @@ fn code_at(s: &[u8], code: u16, at: usize) -> Parsed
         10 => Parsed::Found(Entry::Interrupt, at),
         11 => Parsed::Found(Entry::Enable, at),
         12 => arrival_at(s, at),
-        13 => collect_at(s, at),
+        13 => one_at(s, 13, at),
         14 => bus_at(s, at),
         15 => Parsed::Found(Entry::SetupEnd, at),
-        16 => underrun_at(s, at),
-        17 => overrun_at(s, at),
+        16 => one_at(s, 16, at),
+        17 => one_at(s, 17, at),
         _ => Parsed::Bad,
     }
 }

@@ -19,17 +19,15 @@ ghost use lib.ListN.{getD};
 ghost use Rattle.endpoints.specs.Endpoints.{typeOf};
 ghost use Rattle.detail_rules.specs.Given.{numbersOf, longAt, wordAt, truthAt, withChip, zeroTx, zeroRx, withZero, baseOf, sideFrom, withSides, fileOf, dataOf, datasOf, stateOf, recordOf};
 
-fn wide(x: u8) -> u32
-    ensures { λ r. ⌜ (r ≡ x) × (r < 256) ⌝ }
-{
-    x as u32
-}
-
 // Past the head's end stand zeros.
 fn byte(h: &[u8], at: usize) -> u32
     ensures { λ r. ⌜ (r ≡ getD (now (h .entry)) at 0) × (r < 256) ⌝ }
 {
-    if at < h.len() { wide(h[at]) } else { 0 }
+    if at < h.len() {
+        trace_text::wide(h[at])
+    } else {
+        0
+    }
 }
 
 fn long(h: &[u8], i: usize) -> u32

@@ -62,15 +62,6 @@ fn put_bad(trace: &[u8], k: Record, first: &[u8; 1664], done: &mut usize, line: 
     put(trace, k, first, done, line, len);
 }
 
-pub fn least(a: usize, b: usize) -> usize
-    ensures { λ r. ⌜ r ≤ b ⌝ }
-{
-    if a < b {
-        return a;
-    }
-    b
-}
-
 // A line under an entry's line, only where it is asked for: the entry's stores, or the record after it.
 fn put_under(detail: bool, list: &[u16], stores: usize, k: Record, line: &[u8], len: usize)
     requires { ⌜ (detail ≡ true) × (len ≤ length (now line)) × Under (now list) stores k (take len (now line)) ⌝ }
@@ -85,7 +76,7 @@ fn put_details(detail: bool, list: &[u16], stores: usize, k: Record, line: &mut 
     if !detail {
         return;
     }
-    let n = least(stores, 128);
+    let n = trace_text::least(stores, 128);
     let a = trace_details::stores_line(line, list, n);
     put_under(detail, list, n, k, line, a);
     let b = trace_details::record_line(line, k);

@@ -21,7 +21,7 @@ use Rattle.trace_rules.specs.declared.Entry.{Entry}
 use Rattle.trace_rules.specs.declared.Parsed.{Parsed}
 use Rattle.trace_rules.specs.declared.Parsed.the-variants.{Found, End, Bad}
 use Rattle.trace_rules.specs.Arguments.{argAt, twoAt}
-use Rattle.trace_rules.specs.Entries.{withArg, withTwo, withPacket, allocateAt, addressAt, writeAt, readAt, stallAt, isStalledAt, arrivalAt, collectAt, busAt, underrunAt, overrunAt, codeAt, withCode, entryAt, codeOf}
+use Rattle.trace_rules.specs.Entries.{withArg, withTwo, withPacket, allocateAt, oneAt, writeAt, readAt, stallAt, isStalledAt, arrivalAt, busAt, codeAt, withCode, entryAt, codeOf}
 use Rattle.trace_rules.specs.Packets.{packetAt}
 
 -- an entry, if there is one, has the code c
@@ -56,7 +56,7 @@ module _ (c : ℕ) where
       go false e p q = q
 
 code-coded : (s : List ℕ) (c i : ℕ) → Coded c (codeAt s c i)
-unfolding codeAt allocateAt addressAt writeAt readAt stallAt isStalledAt arrivalAt collectAt busAt underrunAt overrunAt
+unfolding codeAt allocateAt oneAt writeAt readAt stallAt isStalledAt arrivalAt busAt
 code-coded s c i =
     at c 1 (λ h. of-two c _ (λ d w mid. of-two c _ (λ t n past. found _ _ h) (twoAt s mid 3 65535)) (twoAt s i 1 256))
     (at c 2 (λ h. found _ _ h)

@@ -19,11 +19,12 @@ use Rattle.trace_rules.specs.declared.Two.{Two}
 use Rattle.trace_rules.specs.declared.Two.the-variants.{Both, Neither}
 use Rattle.trace_rules.specs.declared.Held.{Held}
 use Rattle.trace_rules.specs.declared.Held.the-variants.{Bytes, Cut}
-use Rattle.trace_rules.specs.declared.Entry.the-variants.{Allocate, Address, Write, Read, Stall, IsStalled, Arrival, Collect, Bus, Underrun, Overrun}
+use Rattle.trace_rules.specs.declared.Entry.{Entry}
+use Rattle.trace_rules.specs.declared.Entry.the-variants.{Allocate, Write, Read, Stall, IsStalled, Arrival, Bus}
 use Rattle.trace_rules.specs.declared.Parsed.{Parsed}
 use Rattle.trace_rules.specs.declared.Parsed.the-variants.{Found, End, Bad}
 use Rattle.trace_rules.specs.Arguments.{argAt, twoAt, directionOf, wantedOf, busOf, flagOf}
-use Rattle.trace_rules.specs.Entries.{allocateAt, addressAt, writeAt, readAt, stallAt, isStalledAt, arrivalAt, collectAt, busAt, underrunAt, overrunAt, codeAt, entryAt}
+use Rattle.trace_rules.specs.Entries.{allocateAt, oneAt, oneOf, writeAt, readAt, stallAt, isStalledAt, arrivalAt, busAt, codeAt, entryAt}
 use Rattle.trace_rules.specs.Packets.{packetAt}
 use Rattle.endpoints.specs.Endpoints.{typeOf}
 
@@ -43,14 +44,14 @@ module _ (s : List ℕ) (at : ℕ) (x : Two) (e : x ≡ twoAt s at 1 256) where
     unfolding allocateAt
     allocate-is t n past dir want kind u i j k = rw (← e, v, ← f, u, i, j, k)
 
-module _ (s : List ℕ) (at : ℕ) (x : Arg) (e : x ≡ argAt s at 255) where
-  pub address-is : (a past : ℕ) (r : ℕ) → x ≡ Got a past → r ≡ a → Found (Address r) past ≡ addressAt s at
-  unfolding addressAt
-  address-is a past r v q = rw (← e, v, q)
+module _ (s : List ℕ) (at c : ℕ) (x : Arg) (e : x ≡ argAt s at 255) where
+  pub one-is : (a past r : ℕ) (n : Entry) → x ≡ Got a past → r ≡ a → n ≡ oneOf c r → Found n past ≡ oneAt (oneOf c) s at
+  unfolding oneAt
+  one-is a past r n v q p = rw (p, ← e, v, q)
 
-  pub address-bad : x ≡ No → Bad ≡ addressAt s at
-  unfolding addressAt
-  address-bad v = rw (← e, v)
+  pub one-bad : x ≡ No → Bad ≡ oneAt (oneOf c) s at
+  unfolding oneAt
+  one-bad v = rw (← e, v)
 
 module _ (s : List ℕ) (at : ℕ) (x : Held) (e : x ≡ packetAt s at) where
   pub write-is : (a start n past : ℕ) → x ≡ Bytes a start n past → Found (Write a start n) past ≡ writeAt s at
@@ -102,15 +103,6 @@ module _ (s : List ℕ) (at : ℕ) (x : Held) (e : x ≡ packetAt s at) where
   unfolding arrivalAt
   arrival-bad v = rw (← e, v)
 
-module _ (s : List ℕ) (at : ℕ) (x : Arg) (e : x ≡ argAt s at 255) where
-  pub collect-is : (a past : ℕ) (r : ℕ) → x ≡ Got a past → r ≡ a → Found (Collect r) past ≡ collectAt s at
-  unfolding collectAt
-  collect-is a past r v q = rw (← e, v, q)
-
-  pub collect-bad : x ≡ No → Bad ≡ collectAt s at
-  unfolding collectAt
-  collect-bad v = rw (← e, v)
-
 module _ (s : List ℕ) (at : ℕ) (x : Arg) (e : x ≡ argAt s at 2) where
   pub bus-is : (a past : ℕ) (r : BusEvent) → x ≡ Got a past → r ≡ busOf a → Found (Bus r) past ≡ busAt s at
   unfolding busAt
@@ -119,23 +111,6 @@ module _ (s : List ℕ) (at : ℕ) (x : Arg) (e : x ≡ argAt s at 2) where
   pub bus-bad : x ≡ No → Bad ≡ busAt s at
   unfolding busAt
   bus-bad v = rw (← e, v)
-
-module _ (s : List ℕ) (at : ℕ) (x : Arg) (e : x ≡ argAt s at 255) where
-  pub underrun-is : (a past : ℕ) (r : ℕ) → x ≡ Got a past → r ≡ a → Found (Underrun r) past ≡ underrunAt s at
-  unfolding underrunAt
-  underrun-is a past r v q = rw (← e, v, q)
-
-  pub underrun-bad : x ≡ No → Bad ≡ underrunAt s at
-  unfolding underrunAt
-  underrun-bad v = rw (← e, v)
-
-  pub overrun-is : (a past : ℕ) (r : ℕ) → x ≡ Got a past → r ≡ a → Found (Overrun r) past ≡ overrunAt s at
-  unfolding overrunAt
-  overrun-is a past r v q = rw (← e, v, q)
-
-  pub overrun-bad : x ≡ No → Bad ≡ overrunAt s at
-  unfolding overrunAt
-  overrun-bad v = rw (← e, v)
 
 -- the arm of the code k, and no arm
 pub arm : (s : List ℕ) (at c k : ℕ) {r : Parsed} → c ≡ k → r ≡ codeAt s k at → r ≡ codeAt s c at

@@ -22,7 +22,7 @@ use Rattle.trace_rules.specs.declared.Entry.the-variants.{Read}
 use Rattle.trace_rules.specs.declared.Parsed.{Parsed}
 use Rattle.trace_rules.specs.declared.Parsed.the-variants.{Found, End, Bad}
 use Rattle.trace_rules.specs.Arguments.{argAt, twoAt}
-use Rattle.trace_rules.specs.Entries.{withArg, withTwo, withPacket, allocateAt, addressAt, writeAt, readAt, stallAt, isStalledAt, arrivalAt, collectAt, busAt, underrunAt, overrunAt, codeAt, withCode, entryAt, Within}
+use Rattle.trace_rules.specs.Entries.{withArg, withTwo, withPacket, allocateAt, oneAt, writeAt, readAt, stallAt, isStalledAt, arrivalAt, busAt, codeAt, withCode, entryAt, Within}
 use Rattle.trace_rules.specs.Packets.{heldIn, heldBy, packetAt}
 use Rattle.trace_rules.proofs.ArgumentRanges.{ranged-two}
 
@@ -77,7 +77,7 @@ module _ (s : List ℕ) where
   either false p q = q
 
   code-sure : (c at : ℕ) → Sure s (codeAt s c at)
-  unfolding codeAt allocateAt addressAt writeAt stallAt isStalledAt arrivalAt collectAt busAt underrunAt overrunAt
+  unfolding codeAt allocateAt oneAt writeAt stallAt isStalledAt arrivalAt busAt
   code-sure c at =
       either (eqb c 1) (of-two _ (λ d w mid. of-two _ (λ t n past. found _ _ tt) (twoAt s mid 3 65535)) (twoAt s at 1 256))
       (either (eqb c 2) (found _ _ tt)

@@ -22,7 +22,7 @@ use Rattle.trace_rules.specs.declared.Entry.the-variants.{Allocate, Init
 use Rattle.trace_rules.specs.declared.Parsed.{Parsed}
 use Rattle.trace_rules.specs.declared.Parsed.the-variants.{Found, End, Bad}
 use Rattle.trace_rules.specs.Arguments.{argAt, twoAt}
-use Rattle.trace_rules.specs.Entries.{withArg, withTwo, withPacket, allocateAt, addressAt, writeAt, readAt, stallAt, isStalledAt, arrivalAt, collectAt, busAt, underrunAt, overrunAt, codeAt, withCode, entryAt}
+use Rattle.trace_rules.specs.Entries.{withArg, withTwo, withPacket, allocateAt, oneAt, writeAt, readAt, stallAt, isStalledAt, arrivalAt, busAt, codeAt, withCode, entryAt}
 use Rattle.trace_rules.specs.Packets.{heldIn, heldBy, packetAt}
 use Rattle.trace_rules.proofs.ArgumentRanges.{ranged, ranged-two}
 
@@ -98,7 +98,7 @@ module _ (s : List ℕ) (b : ℕ) where
   either false p q = q
 
   code-good : (c at : ℕ) → b ≤ at → at ≤ length s → Good s b (codeAt s c at)
-  unfolding codeAt allocateAt addressAt writeAt readAt stallAt isStalledAt arrivalAt collectAt busAt underrunAt overrunAt
+  unfolding codeAt allocateAt oneAt writeAt readAt stallAt isStalledAt arrivalAt busAt
   code-good c at h l =
       either (eqb c 1) (two-good at 1 256 _ h (λ d w mid p q. two-good mid 3 65535 _ p (λ t n past i j. found _ _ i j tt)))
       (either (eqb c 2) (found _ _ h l tt)

@@ -39,10 +39,6 @@ withPacket k Cut = Bad
 unfoldable pub allocateAt : List ℕ → ℕ → Parsed
 allocateAt s at = withTwo (λ d w mid. withTwo (λ t n past. Found (Allocate (directionOf d) (wantedOf w) (typeOf t) n) past) (twoAt s mid 3 65535)) (twoAt s at 1 256)
 
--- "4 address", "addresses to 255"
-unfoldable pub addressAt : List ℕ → ℕ → Parsed
-addressAt s at = withArg (λ a past. Found (Address a) past) (argAt s at 255)
-
 -- "5 write (endpoint, length, bytes)", "Endpoints to 255"
 unfoldable pub writeAt : List ℕ → ℕ → Parsed
 writeAt s at = withPacket (λ e start n past. Found (Write e start n) past) (packetAt s at)
@@ -63,20 +59,17 @@ isStalledAt s at = withTwo (λ e d past. Found (IsStalled e (directionOf d)) pas
 unfoldable pub arrivalAt : List ℕ → ℕ → Parsed
 arrivalAt s at = withPacket (λ e start n past. Found (Arrival e start n) past) (packetAt s at)
 
--- "13 collect (endpoint)"
-unfoldable pub collectAt : List ℕ → ℕ → Parsed
-collectAt s at = withArg (λ e past. Found (Collect e) past) (argAt s at 255)
-
 -- "14 bus (0 reset 1 suspend 2 resume)"
 unfoldable pub busAt : List ℕ → ℕ → Parsed
 busAt s at = withArg (λ a past. Found (Bus (busOf a)) past) (argAt s at 2)
 
--- "16 underrun, 17 overrun (endpoint)"
-unfoldable pub underrunAt : List ℕ → ℕ → Parsed
-underrunAt s at = withArg (λ e past. Found (Underrun e) past) (argAt s at 255)
+-- "4 address", "13 collect (endpoint)", "16 underrun, 17 overrun (endpoint)": "Endpoints to 255, addresses to 255"
+unfoldable pub oneAt : (ℕ → Entry) → List ℕ → ℕ → Parsed
+oneAt entry s at = withArg (λ a past. Found (entry a) past) (argAt s at 255)
 
-unfoldable pub overrunAt : List ℕ → ℕ → Parsed
-overrunAt s at = withArg (λ e past. Found (Overrun e) past) (argAt s at 255)
+-- the same by the code, as the program chooses
+abbrev pub oneOf : ℕ → ℕ → Entry
+oneOf c a = cond (eqb c 4) (Address a) (cond (eqb c 13) (Collect a) (cond (eqb c 16) (Underrun a) (Overrun a)))
 
 -- the entry of code c whose arguments begin at a place; "an unknown code" is bad
 unfoldable pub codeAt : List ℕ → ℕ → ℕ → Parsed
@@ -84,7 +77,7 @@ codeAt s c at =
     cond (eqb c 1) (allocateAt s at) (
     cond (eqb c 2) (Found Init at) (
     cond (eqb c 3) (Found Reset at) (
-    cond (eqb c 4) (addressAt s at) (
+    cond (eqb c 4) (oneAt Address s at) (
     cond (eqb c 5) (writeAt s at) (
     cond (eqb c 6) (readAt s at) (
     cond (eqb c 7) (stallAt s at) (
@@ -93,11 +86,11 @@ codeAt s c at =
     cond (eqb c 10) (Found Interrupt at) (
     cond (eqb c 11) (Found Enable at) (
     cond (eqb c 12) (arrivalAt s at) (
-    cond (eqb c 13) (collectAt s at) (
+    cond (eqb c 13) (oneAt Collect s at) (
     cond (eqb c 14) (busAt s at) (
     cond (eqb c 15) (Found SetupEnd at) (
-    cond (eqb c 16) (underrunAt s at) (
-    cond (eqb c 17) (overrunAt s at) (
+    cond (eqb c 16) (oneAt Underrun s at) (
+    cond (eqb c 17) (oneAt Overrun s at) (
     Bad)))))))))))))))))
 
 abbrev pub withCode : List ℕ → Number → Parsed

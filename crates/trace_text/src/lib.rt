@@ -1,7 +1,7 @@
 // The text of a report, piece by piece: bytes, decimal numbers, fields. Each function writes at a place of a lent buffer and gives the place after.
 ghost use mathlib.Core.Path.{_≡_};
 ghost use mathlib.Core.List.{[], _∷_};
-ghost use Prim.Native.Nat.{_+_, _*_, _≤_, _<_};
+ghost use Prim.Native.Nat.{_+_, _*_, _≤_, _<_, min};
 ghost use lib.ListN.{length};
 ghost use Rattle.trace_rules.specs.Text.{Wrote, decimal, field, fields};
 
@@ -9,6 +9,18 @@ pub fn wide(x: u8) -> u32
     ensures { λ r. ⌜ (r ≡ x) × (r < 256) ⌝ }
 {
     x as u32
+}
+
+pub fn wide_word(x: u16) -> u32
+    ensures { λ r. ⌜ (r ≡ x) × (r < 65536) ⌝ }
+{
+    x as u32
+}
+
+pub fn least(a: usize, b: usize) -> usize
+    ensures { λ r. ⌜ (r ≡ min a b) × (r ≤ a) × (r ≤ b) ⌝ }
+{
+    if a < b { a } else { b }
 }
 
 pub fn put(out: &mut [u8], at: usize, b: u8) -> usize

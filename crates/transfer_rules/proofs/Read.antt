@@ -37,7 +37,7 @@ whole b w c f = record { regs = record { board = b; words = w }; endpoints = [];
 
 -- the packet that waits fits its area, because the record passes reply 16's test
 pub packet-fits : (b : Board) (w : File) (f : Flags) (ep : ℕ) → passes b w f ≡ true → rxCount ep w ≤ areaIn b ep Out .size
-unfolding recordSound rxCount areaOf
+unfolding recordSound areaOf
 packet-fits b w f ep p = waiting-fits (whole b w idle f) (record-is-sound (whole b w idle f) p) ep Out
 
 module _ (b : Board) (ep : ℕ) {s : Span} (is : s ≡ areaIn b ep Out) where
@@ -64,7 +64,6 @@ module _ (ep : ℕ) (x : List ℕ) (n size : ℕ) (c : ControlState) (f : Flags)
 
 -- the selection changes no count, so that it is the same before and after
 pub same-count : (ep : ℕ) (g : Log) {h : Log} → h ≡ writeIndex ep g → rxCount ep (h .regs) ≡ rxCount ep (g .regs)
-unfolding rxCount
 same-count ep g p =
     ap (λ (h : Log). rxCount ep (h .regs)) p ∙ ap (rxCount ep) (index-selects ep g) ∙ ap (λ (s : Side). s .len) (reselected (g .regs) ep ep Out)
 

@@ -13,7 +13,7 @@ use Rattle.register_file.specs.Registers.{sideAt}
 use Rattle.control_state.specs.Numbers.{stateNumber}
 use Rattle.control_state.specs.declared.ControlStateEnum.{ControlStateEnum}
 use Rattle.control_state.specs.declared.ControlStateEnum.the-variants.{Idle, Setup, DataIn, DataOut, Accepted, NodataPhase}
-use Rattle.transfer_rules.specs.Peek.{shortIn, short, rxPktRdy, rxCount}
+use Rattle.transfer_rules.specs.Peek.{shortIn, short}
 use Rattle.record.specs.declared.Record.{Record}
 use Rattle.record.specs.Record.{needOf, endpointsOf, recordSound}
 use Rattle.record.specs.Rows as rows
@@ -63,7 +63,6 @@ module _ (k : Record) (ep n f l : ℕ) where
   says-short = tells-either (ltb f (needOf k)) (ltb l 384) (tells-under f (needOf k)) (tells-under l 384)
 
   says-ready : nothingWaits k ep ≡ true ↔ sideAt (k .regs .words) ep Out .ready ≡ false
-  unfolding rxPktRdy
   says-ready = tells-clear (sideAt (k .regs .words) ep Out .ready)
 
   says-unreadable : notReadable k ep ≡ true ↔ (ep ≡ 0) × Unreadable (k .«control_state» .state)
@@ -71,7 +70,7 @@ module _ (k : Record) (ep n f l : ℕ) where
   says-unreadable = tells-both (eqb ep 0) (unreadableIn (k .«control_state» .state)) (tells-is ep 0) (unreadable-says (k .«control_state» .state))
 
   says-unset : notSetup k ep n ≡ true ↔ (ep ≡ 0) × Unset (k .«control_state» .state) (sideAt (k .regs .words) ep Out .len) n
-  unfolding read.notSetup rxCount
+  unfolding read.notSetup
   says-unset =
       tells-both (eqb ep 0) (notSetupIn (k .«control_state» .state) (sideAt (k .regs .words) ep Out .len) n) (tells-is ep 0)
       (unset-says (k .«control_state» .state) (sideAt (k .regs .words) ep Out .len) n)

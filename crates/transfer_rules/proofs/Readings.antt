@@ -16,7 +16,6 @@ use Rattle.transfer_rules.specs.Peek.{txPktRdy, rxPktRdy, rxCount}
 module _ (r : File) (e : ℕ) where
   -- `if index == 0 { regs.csr0l() } else { regs.txcsrl() }.read().tx_pkt_rdy()`
   pub tx-ready : cond (eqb e 0) (csr0lRead (withIndex r e) .«tx_pkt_rdy») (txcsrlRead (withIndex r e) .«tx_pkt_rdy») ≡ txPktRdy e r
-  unfolding txPktRdy
   tx-ready = go (ℕ-discrete e 0)
     where
       go : Dec (e ≡ 0) → cond (eqb e 0) (csr0lRead (withIndex r e) .«tx_pkt_rdy») (txcsrlRead (withIndex r e) .«tx_pkt_rdy») ≡ sideAt r e In .ready
@@ -24,7 +23,6 @@ module _ (r : File) (e : ℕ) where
       go (no n) = rw (ne-eqb e 0 n) (regs.tx-ready (withIndex r e) ∙ ap (λ (s : Side). s .ready) (regs.chosen-selected r e In))
 
   pub rx-ready : cond (eqb e 0) (csr0lRead (withIndex r e) .«rx_pkt_rdy») (rxcsrlRead (withIndex r e) .«rx_pkt_rdy») ≡ rxPktRdy e r
-  unfolding rxPktRdy
   rx-ready = go (ℕ-discrete e 0)
     where
       go : Dec (e ≡ 0) → cond (eqb e 0) (csr0lRead (withIndex r e) .«rx_pkt_rdy») (rxcsrlRead (withIndex r e) .«rx_pkt_rdy») ≡ sideAt r e Out .ready
@@ -33,7 +31,6 @@ module _ (r : File) (e : ℕ) where
 
   -- `if index == 0 { regs.count0() } else { regs.rxcount() }.read().count()`
   pub waiting : cond (eqb e 0) (count0 (withIndex r e)) (rxcount (withIndex r e)) ≡ rxCount e r
-  unfolding rxCount
   waiting = go (ℕ-discrete e 0)
     where
       go : Dec (e ≡ 0) → cond (eqb e 0) (count0 (withIndex r e)) (rxcount (withIndex r e)) ≡ sideAt r e Out .len

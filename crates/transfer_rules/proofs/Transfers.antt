@@ -40,7 +40,7 @@ use Rattle.transfer_rules.specs.declared.Verdict.{Verdict}
 use Rattle.transfer_rules.specs.declared.Verdict.the-variants.{Clear}
 use Rattle.transfer_rules.specs.declared.WriteAnswer.the-variants as wrote
 use Rattle.transfer_rules.specs.declared.ReadAnswer.the-variants as got-answer
-use Rattle.transfer_rules.specs.Peek.{txPktRdy, rxCount, after}
+use Rattle.transfer_rules.specs.Peek.{rxCount, after}
 use Rattle.transfer_rules.specs.WriteTests as write-tests
 use Rattle.transfer_rules.specs.WriteZero.{writeNumber}
 use Rattle.transfer_rules.specs.Write as write
@@ -162,7 +162,6 @@ module _ (k : Record) (e : ℕ) (bytes x l : List ℕ) where
       low = below-six (k .regs .board) e (passed .admitted .there)
 
       not-ready : before .ready ≡ false
-      unfolding txPktRdy
       not-ready = passed .uncollected
 
       empty : before .len ≡ 0
@@ -252,7 +251,7 @@ module _ (k : Record) (e : ℕ) (buf x l : List ℕ) where
     part-length = length-take-le (min len (length buf)) (drop (areaOf k e Out .start) x) part-there
 
     copied-there : reading .buf ≡ pasted buf 0 part
-    unfolding read.readDone copied areaOf rxCount
+    unfolding read.readDone copied areaOf
     copied-there = ap (λ (o : ReadOutcome). o .buf) read-done
 
     copied-inside : (i : ℕ) → i < len → i < length buf → getD (reading .buf) i 0 ≡ getD x (areaOf k e Out .start + i) 0

@@ -13,7 +13,7 @@ use Rattle.board.specs.declared.Direction.the-variants.{In}
 use Rattle.register_file.specs.Registers.{sideAt}
 use Rattle.control_state.specs.declared.ControlStateEnum.{ControlStateEnum}
 use Rattle.control_state.specs.declared.ControlStateEnum.the-variants.{Idle, Setup, DataIn, DataOut, Accepted, NodataPhase}
-use Rattle.transfer_rules.specs.Peek.{shortIn, short, txPktRdy}
+use Rattle.transfer_rules.specs.Peek.{shortIn, short}
 use Rattle.record.specs.declared.Record.{Record}
 use Rattle.record.specs.Record.{areaOf, needOf, endpointsOf, recordSound}
 use Rattle.record.specs.Rows as rows
@@ -56,7 +56,6 @@ module _ (k : Record) (ep n f l : ℕ) where
   says-short = tells-either (ltb f (needOf k)) (ltb l 384) (tells-under f (needOf k)) (tells-under l 384)
 
   says-ready : uncollected k ep ≡ true ↔ sideAt (k .regs .words) ep In .ready ≡ true
-  unfolding txPktRdy
   says-ready = tells-set (sideAt (k .regs .words) ep In .ready)
 
   says-long : tooLong k ep n ≡ true ↔ areaOf k ep In .size < n

@@ -29,13 +29,13 @@ short k fifo list = shortIn (k .regs .board) fifo list
 
 -- TxPktRdy, RxPktRdy and the count of an endpoint. proofs/Readings.antt: this is what the source's `if index == 0 { regs.csr0l() } else
 -- { regs.txcsrl() }.read().tx_pkt_rdy()` and its like read, once the endpoint is selected.
-unfoldable pub txPktRdy : ℕ → File → Bool
+abbrev pub txPktRdy : ℕ → File → Bool
 txPktRdy e w = sideAt w e In .ready
 
-unfoldable pub rxPktRdy : ℕ → File → Bool
+abbrev pub rxPktRdy : ℕ → File → Bool
 rxPktRdy e w = sideAt w e Out .ready
 
-unfoldable pub rxCount : ℕ → File → ℕ
+abbrev pub rxCount : ℕ → File → ℕ
 rxCount e w = sideAt w e Out .len
 
 -- "Order: 15, 16, 8, then ..": the three that come first in every call, and then the call's own

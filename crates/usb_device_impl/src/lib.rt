@@ -5,13 +5,13 @@
 use board::Board;
 use call_rules::Called;
 use call_rules::Ran;
-use call_rules::Reply;
 use control_state::ControlState;
 use control_state::ControlStateEnum;
 use record::Admission;
 use record::Flags;
 use record::Record;
 use record::Refusal;
+use record::Reply;
 use register_file::Regs;
 ghost use mathlib.Core.Path.{_≡_};
 ghost use Prim.Native.Nat.{_≤_, _<_};
@@ -20,7 +20,7 @@ ghost use Rattle.record.specs.Record.{passes, admissionBy, endpointsIn, listNee
 ghost use lib.Dec.{leb, ltb};
 ghost use mathlib.Core.Bool.{false};
 ghost use Rattle.record.specs.declared.Admission.the-variants.{Clear};
-ghost use Rattle.call_rules.specs.Calls.{ranDone, ranRefused, ended, left, addressEntry, busInitRan, enableRan, addressRan, busInitCall, enableCall, addressCall, idled, forceResetCall, replyNumber};
+ghost use Rattle.call_rules.specs.Calls.{ranDone, ranRefused, ended, left, addressEntry, busInitRan, enableRan, addressRan, busInitCall, enableCall, addressCall, idled, forceResetCall};
 
 // The source's constant: the address is set before the status stage of its request.
 pub const QUIRK_SET_ADDRESS_BEFORE_STATUS: bool = true;
@@ -193,14 +193,4 @@ pub fn force_reset() -> Reply
     ensures { λ a. ⌜ a ≡ forceResetCall ⌝ }
 {
     Reply::Refused(Refusal::Unsupported)
-}
-
-// Document 01's number of an answer.
-pub fn reply_number(a: Reply) -> u8
-    ensures { λ n. ⌜ n ≡ replyNumber a ⌝ }
-{
-    match a {
-        Reply::Done => 0,
-        Reply::Refused(x) => record_ops::refusal_number(x),
-    }
 }

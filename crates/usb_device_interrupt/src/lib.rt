@@ -1,13 +1,13 @@
 // `on_interrupt` of the source: it reads the three interrupt registers, which clears them, and takes what it read into the flags.
 use board::Board;
 use board::Direction;
-use call_rules::InterruptAnswer;
-use call_rules::InterruptCalled;
 use call_rules::Snapshot;
 use event_rules::BusEvent;
+use record::Answered;
 use record::Flags;
 use record::Record;
 use record::Refusal;
+use record::Reply;
 use register_file::Regs;
 ghost use mathlib.Core.Path.{_≡_};
 ghost use mathlib.Core.Bool.{cond};
@@ -70,7 +70,7 @@ fn take_endpoint(s: Snapshot, f: Flags, index: u8) -> Flags
 }
 
 // A snapshot, taken into the flags of a board with so many endpoints.
-pub fn take(count: u8, s: Snapshot, f: Flags) -> Flags
+fn take(count: u8, s: Snapshot, f: Flags) -> Flags
     requires { ⌜ count ≤ 6 ⌝ }
     ensures { λ o. ⌜ o ≡ taken count s f ⌝ }
 {
@@ -92,16 +92,16 @@ fn interrupt_if(ok: bool, b: Board, w: &mut [u16; 46], f: Flags) -> Flags
     f
 }
 
-fn answer(ok: bool) -> InterruptAnswer
+fn answer(ok: bool) -> Reply
     ensures { λ a. ⌜ a ≡ answerBy ok ⌝ }
 {
     if ok {
-        return InterruptAnswer::Done;
+        return Reply::Done;
     }
-    InterruptAnswer::Refused(Refusal::BadRecord)
+    Reply::Refused(Refusal::BadRecord)
 }
 
-pub fn on_interrupt(k: Record) -> InterruptCalled
+pub fn on_interrupt(k: Record) -> Answered
     ensures { λ o. ⌜ o ≡ interruptCall k ⌝ }
 {
     let r = k.regs;
@@ -111,7 +111,7 @@ pub fn on_interrupt(k: Record) -> InterruptCalled
     let mut w = r.words;
     let ok = record_ops::sound(b, &w, k.irq);
     let f = interrupt_if(ok, b, &mut w, k.irq);
-    InterruptCalled {
+    Answered {
         answer: answer(ok),
         record: Record {
             regs: Regs { board: b, words: w },

@@ -12,7 +12,7 @@ use round_rules::PollRan;
 use round_rules::PollResult;
 use round_rules::Progress;
 ghost use mathlib.Core.Path.{_≡_};
-ghost use mathlib.Core.Bool.{false, cond};
+ghost use mathlib.Core.Bool.{false};
 ghost use Prim.Native.Nat.{_+_, _*_, _≤_, _<_};
 ghost use lib.ListN.{length};
 ghost use Rattle.store_rules.specs.Stores.{log};
@@ -21,19 +21,13 @@ ghost use Rattle.round_rules.specs.Zero.{roundOf};
 ghost use Rattle.round_rules.specs.Poll.{outcome, afterOf, polled, walkedOn, acceptedOn, roundOut, pollLogged, pollServed, pollAdmitted, pollCall};
 ghost use Rattle.record.specs.Record.{withReset};
 
-fn setup_mask(setup: bool) -> u16
-    ensures { λ m. ⌜ m ≡ cond setup 1 0 ⌝ }
-{
-    if setup { 1 } else { 0 }
-}
-
 fn tell(out: u16, sent: u16, setup: bool) -> PollResult
     ensures { λ a. ⌜ a ≡ told out sent setup ⌝ }
 {
     let m = Masks {
         ep_out: out,
         ep_in_complete: sent,
-        ep_setup: setup_mask(setup),
+        ep_setup: csr_ops::weight(setup, 1),
     };
     if (sent != 0) | (out != 0) | setup {
         return PollResult::Data(m);

@@ -68,14 +68,14 @@ fn not_setup(w: &[u16; 46], c: ControlState, ep: u8, room: usize) -> bool
     ensures { λ b. ⌜ b ≡ notSetup (now (w .entry)) c ep room ⌝ }
 {
     let s = c.state;
-    (ep == 0) & not_setup_in(s, peek::rx_count(w, ep), room)
+    (ep == 0) & not_setup_in(s, regs::waiting_len(w, ep, Direction::Out), room)
 }
 
 // Read's own tests, in their order: 6, 12, 13.
 fn own_tests_at(w: &[u16; 46], c: ControlState, ep: u8, room: usize) -> Verdict
     ensures { λ v. ⌜ v ≡ ownTestsAt (now (w .entry)) c ep room ⌝ }
 {
-    if !peek::rx_pkt_rdy(w, ep) {
+    if !regs::waits(w, ep, Direction::Out) {
         return Verdict::Blocked;
     }
     if not_readable(c, ep) {
@@ -88,7 +88,7 @@ fn own_tests_at(w: &[u16; 46], c: ControlState, ep: u8, room: usize) -> Verdict
 }
 
 // Every test, before anything changes: 15, 16, 8, then 6, 12, 13.
-pub fn refusal(
+fn refusal(
     b: Board,
     w: &[u16; 46],
     c: ControlState,
@@ -229,7 +229,7 @@ fn zero_by(
 }
 
 // The packet is in the buffer: the endpoint is free for the next.
-pub fn read_zero(
+fn read_zero(
     w: &mut [u16; 46],
     list: &mut [u16],
     n: usize,
@@ -251,7 +251,7 @@ fn fetch(b: Board, w: &[u16; 46], ep: u8, buf: &mut [u8], fifo: &[u8]) -> usize
     requires { ⌜ (rxCount ep (now w) ≤ areaIn b ep Out .size) × (needIn b ≤ length (now fifo)) ⌝ }
     ensures { λ n. ⌜ (n ≡ rxCount ep (now (w .entry))) × (now (buf .exit) ≡ copied b ep n (now (buf .entry)) (now (fifo .entry))) ⌝ }
 {
-    let n = peek::rx_count(w, ep) as usize;
+    let n = regs::waiting_len(w, ep, Direction::Out) as usize;
     let area = record_ops::area(b, ep, Direction::Out);
     fifo::take_bytes(fifo, area, n, buf);
     n

@@ -63,7 +63,7 @@ fn not_writable(c: ControlState, ep: u8, len: usize) -> bool
 fn own_tests_at(b: Board, w: &[u16; 46], c: ControlState, ep: u8, len: usize) -> Verdict
     ensures { λ v. ⌜ v ≡ ownTestsAt b (now (w .entry)) c ep len ⌝ }
 {
-    if peek::tx_pkt_rdy(w, ep) {
+    if regs::waits(w, ep, Direction::In) {
         return Verdict::Blocked;
     }
     if too_long(b, ep, len) {
@@ -76,7 +76,7 @@ fn own_tests_at(b: Board, w: &[u16; 46], c: ControlState, ep: u8, len: usize) ->
 }
 
 // Every test, before anything changes: 15, 16, 8, then 6, 9, 11.
-pub fn refusal(
+fn refusal(
     b: Board,
     w: &[u16; 46],
     c: ControlState,
@@ -102,7 +102,7 @@ pub fn refusal(
 }
 
 // Endpoint 0's recorded transmit size.
-pub fn tx_size(es: [EndpointData; 6]) -> usize
+fn tx_size(es: [EndpointData; 6]) -> usize
     ensures { λ n. ⌜ n ≡ txSizeIn es ⌝ }
 {
     let e = es[0];
@@ -165,7 +165,7 @@ fn send_data_in(
 }
 
 // Endpoint 0, by its state. Of the last three none comes here: they are refused before.
-pub fn send_zero(
+fn send_zero(
     w: &mut [u16; 46],
     list: &mut [u16],
     n: usize,

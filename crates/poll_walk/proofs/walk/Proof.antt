@@ -30,7 +30,7 @@ loop-less : tie.Need-loop-less Inv-loop μ-loop
 loop-less c = omega (arith, c .before .before .before .before .before .before .before .before .without .ensures .0, c .before .before .before .before .before .before .before .before .before .lowest .ensures .less)
 
 loop-again : tie.Need-loop-again Inv-loop μ-loop
-loop-again c = let a = c .before .before .before .before .before .write-index in let drained = drained-selected _ _ _ _ (a .ensures .0) (c .before .received .ensures) (c .drain .ensures .0) in turn _ _ _ _ _ _ _ (c .before .before .before .before .before .before .before .before .before .before .before .loop .inv) (c .before .before .before .before .before .before .before .before .before .lowest .ensures) (c .before .before .before .before .before .before .before .before .without .ensures .0) (visited _ _ _ (a .ensures .0) drained) (a .ensures .1) (c .drain .ensures .1) (omega arith)
+loop-again c = let a = c .before .before .before .before .before .write-index in let drained = drained-selected _ _ _ _ (a .ensures .0) (c .before .waits .ensures) (c .drain .ensures .0) in turn _ _ _ _ _ _ _ (c .before .before .before .before .before .before .before .before .before .before .before .loop .inv) (c .before .before .before .before .before .before .before .before .before .lowest .ensures) (c .before .before .before .before .before .before .before .before .without .ensures .0) (visited _ _ _ (a .ensures .0) drained) (a .ensures .1) (c .drain .ensures .1) (omega arith)
 
 same-length : tie.Need-same-length Inv-loop μ-loop
 same-length c = c .before .loop .inv .long

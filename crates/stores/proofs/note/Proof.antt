@@ -1,11 +1,11 @@
 use Rattle.register_file.specs.Registers.{index}
-use Rattle.store_rules.specs.Stores.{listing as noted}
+use Rattle.store_rules.specs.Stores.{listing}
 use borrow.Author.Needs.{needs}
 use Rattle.stores.proofs.note.Statement.{statement}
 use Rattle.stores.proofs.note.Tie as tie
 
 returns : tie.Need-returns
-unfolding noted index
+unfolding listing index
 returns c = (cc, cc)
 
 pub note-spec : {M : Type 1} → statement M

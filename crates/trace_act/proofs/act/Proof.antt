@@ -1,7 +1,7 @@
 -- `trace_act::act` meets its contract.
 -- Assumes nothing.
 use denote.Ref.{now}
-use Rattle.report_rules.proofs.Act.{entry, by-called, by-told, by-polled, by-allocated, by-interrupted, by-happened, by-bus, by-collected, by-written, by-arrived, write-within, arrival-within, read-within, wrote-fits}
+use Rattle.report_rules.proofs.Act.{entry, by-called, by-told, by-polled, by-allocated, by-answered, by-bus, by-collected, by-written, by-arrived, write-within, arrival-within, read-within, wrote-fits}
 use native.Mathlib.Omega.{arith}
 use borrow.Author.Needs.{needs}
 use Rattle.trace_act.proofs.act.Statement.{statement}
@@ -60,7 +60,7 @@ returns-9 : tie.Need-returns-9
 returns-9 c = entry _ _ _ _ (c .before .before .before .before .before .before .before .before .enum-told3 .given .1) (c .before .before .before .before .before .before .before .before .before .before .code-of .ensures) (by-polled _ (c .before .before .before .before .before .poll .ensures) (c .before .before .polled .ensures))
 
 returns-10 : tie.Need-returns-10
-returns-10 c = entry _ _ _ _ (c .before .before .before .before .before .enum-told4 .given .1) (c .before .before .before .before .before .before .before .code-of .ensures) (by-interrupted _ _ (c .before .before .before .on-interrupt .ensures) (c .before .before .interrupted .ensures))
+returns-10 c = entry _ _ _ _ (c .before .before .before .before .before .enum-told4 .given .1) (c .before .before .before .before .before .before .before .code-of .ensures) (by-answered _ _ (c .before .before .before .on-interrupt .ensures) (c .before .before .answered .ensures))
 
 returns-11 : tie.Need-returns-11
 returns-11 c = entry _ _ _ _ (c .before .before .before .before .before .before .before .before .enum-told5 .given .1) (c .before .before .before .before .before .before .before .before .before .before .code-of .ensures) (by-called _ (c .before .before .before .before .before .enable .ensures) (c .before .before .called5 .ensures))
@@ -69,7 +69,7 @@ returns-12 : tie.Need-returns-12
 returns-12 c =
     let a = c .before .before .before .before .before .before .before .before .before .before .before .before .before .before .before .before .before .args in
     let p = c .before .before .before .before .before .before .before .before .before .before .e7 .given in
-    entry _ _ _ _ (p .1) (c .before .before .before .before .before .before .before .before .before .before .before .before .code-of .ensures) (by-arrived (a .k) (p .0 .0) (now (a .trace)) (p .0 .1 .0) (p .0 .1 .1 .0) (now (a .fifo)) (now (a .list)) (c .before .before .before .before .before .arrival .ensures) (c .before .before .happened .ensures))
+    entry _ _ _ _ (p .1) (c .before .before .before .before .before .before .before .before .before .before .before .before .code-of .ensures) (by-arrived (a .k) (p .0 .0) (now (a .trace)) (p .0 .1 .0) (p .0 .1 .1 .0) (now (a .fifo)) (now (a .list)) (c .before .before .before .before .before .arrival .ensures) (c .before .before .answered2 .ensures))
 
 returns-13 : tie.Need-returns-13
 returns-13 c = entry _ _ _ _ (c .before .before .before .before .before .before .before .before .e8 .given .1) (c .before .before .before .before .before .before .before .before .before .before .code-of .ensures) (by-collected _ _ (c .before .before .before .before .collection .ensures .0) (c .before .before .collected .ensures))
@@ -78,16 +78,16 @@ returns-14 : tie.Need-returns-14
 returns-14 c =
     let a = c .before .before .before .before .before .before .before .before .before .before .before .before .before .args in
     let p = c .before .before .before .before .before .before .e9 .given in
-    entry _ _ _ _ (p .1) (c .before .before .before .before .before .before .before .before .code-of .ensures) (by-bus _ _ (a .k) (c .before .before .before .bus .result) (p .0 .0) (c .before .before .before .bus .ensures) (c .before .before .happened2 .ensures))
+    entry _ _ _ _ (p .1) (c .before .before .before .before .before .before .before .before .code-of .ensures) (by-bus _ _ (a .k) (c .before .before .before .bus .result) (p .0 .0) (c .before .before .before .bus .ensures) (c .before .before .answered3 .ensures))
 
 returns-15 : tie.Need-returns-15
-returns-15 c = entry _ _ _ _ (c .before .before .before .before .before .enum-told6 .given .1) (c .before .before .before .before .before .before .before .code-of .ensures) (by-happened _ _ (c .before .before .before .setup-end .ensures) (c .before .before .happened3 .ensures))
+returns-15 c = entry _ _ _ _ (c .before .before .before .before .before .enum-told6 .given .1) (c .before .before .before .before .before .before .before .code-of .ensures) (by-answered _ _ (c .before .before .before .setup-end .ensures) (c .before .before .answered4 .ensures))
 
 returns-16 : tie.Need-returns-16
-returns-16 c = entry _ _ _ _ (c .before .before .before .before .before .before .e10 .given .1) (c .before .before .before .before .before .before .before .before .code-of .ensures) (by-happened _ _ (c .before .before .before .underrun .ensures) (c .before .before .happened4 .ensures))
+returns-16 c = entry _ _ _ _ (c .before .before .before .before .before .before .e10 .given .1) (c .before .before .before .before .before .before .before .before .code-of .ensures) (by-answered _ _ (c .before .before .before .underrun .ensures) (c .before .before .answered5 .ensures))
 
 returns-17 : tie.Need-returns-17
-returns-17 c = entry _ _ _ _ (c .before .before .before .before .before .before .e11 .given .1) (c .before .before .before .before .before .before .before .before .code-of .ensures) (by-happened _ _ (c .before .before .before .overrun .ensures) (c .before .before .happened5 .ensures))
+returns-17 c = entry _ _ _ _ (c .before .before .before .before .before .before .e11 .given .1) (c .before .before .before .before .before .before .before .before .code-of .ensures) (by-answered _ _ (c .before .before .before .overrun .ensures) (c .before .before .answered6 .ensures))
 
 pub act-spec : {M : Type 1} → statement M
 act-spec = tie.close (tie.spec (λ c κs. search needs) (λ c. search needs) (λ c κs. search needs) (λ c κs. search needs) (λ c. search needs)

@@ -11,7 +11,7 @@ use Rattle.trace_answers.proofs.show_stored.Statement.{statement}
 use Rattle.trace_answers.proofs.show_stored.Tie as tie
 
 slice-aggregate-counted-line : tie.Need-slice-aggregate-counted-line
-slice-aggregate-counted-line c = sym (length-take-le _ _ (c .before .before .least .ensures .1))
+slice-aggregate-counted-line c = sym (length-take-le _ _ (c .before .before .least .ensures .2))
 
 counted-line-requires : tie.Need-counted-line-requires
 counted-line-requires c κs = omega (arith, length-take (c .before .before .least .result) (now (c .before .before .before .before .before .args .buf)))

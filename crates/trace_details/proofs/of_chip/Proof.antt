@@ -11,7 +11,7 @@ use Rattle.trace_details.proofs.of_chip.Tie as tie
 
 returns : tie.Need-returns
 unfolding ofChip csr0lAt index faddr power intrusbe enabledOf intrusb intrOf
-returns c = λ i. c .before .before .before .before .before .before .before .before .before .before .before .before .before .before .before .before .before .before .before .wide .ensures .0 i ∷ c .before .before .before .before .before .before .before .before .before .before .before .before .before .before .before .before .before .wide2 .ensures .0 i ∷ c .before .before .before .before .before .before .before .before .before .before .before .before .before .before .before .wide3 .ensures .0 i ∷ c .before .before .before .before .before .before .before .before .before .before .before .before .before .wide4 .ensures .0 i ∷ c .before .before .before .before .before .before .before .before .before .before .before .wide5 .ensures .0 i ∷ c .before .before .before .before .before .before .before .before .before .wide6 .ensures .0 i ∷ c .before .before .before .before .before .before .before .wide7 .ensures .0 i ∷ c .before .before .before .before .before .wide8 .ensures .0 i ∷ c .before .before .before .wide9 .ensures .0 i ∷ (c .wide10 .ensures .0 ∙ c .before .csr0l-number .ensures ∙ ap csr0lNumber (c .before .before .read-csr0l .ensures)) i ∷ []
+returns c = λ i. c .before .before .before .before .before .before .before .before .before .before .before .before .before .before .before .before .before .before .before .wide-word .ensures .0 i ∷ c .before .before .before .before .before .before .before .before .before .before .before .before .before .before .before .before .before .wide-word2 .ensures .0 i ∷ c .before .before .before .before .before .before .before .before .before .before .before .before .before .before .before .wide-word3 .ensures .0 i ∷ c .before .before .before .before .before .before .before .before .before .before .before .before .before .wide-word4 .ensures .0 i ∷ c .before .before .before .before .before .before .before .before .before .before .before .wide-word5 .ensures .0 i ∷ c .before .before .before .before .before .before .before .before .before .wide-word6 .ensures .0 i ∷ c .before .before .before .before .before .before .before .wide-word7 .ensures .0 i ∷ c .before .before .before .before .before .wide-word8 .ensures .0 i ∷ c .before .before .before .wide-word9 .ensures .0 i ∷ (c .wide-word10 .ensures .0 ∙ c .before .csr0l-number .ensures ∙ ap csr0lNumber (c .before .before .read-csr0l .ensures)) i ∷ []
 
 pub of-chip-spec : {M : Type 1} → statement M
 of-chip-spec = tie.close (tie.spec (λ c. search needs) (λ c κs. search needs) (λ c. search needs) (λ c κs. search needs) (λ c. search needs)

@@ -21,7 +21,7 @@ returns-3 c = arm _ _ _ 3 (c .match .keys3) refl
 
 returns-4 : tie.Need-returns-4
 unfolding codeAt
-returns-4 c = arm _ _ _ 4 (c .before .match .keys4) (c .address-at .ensures)
+returns-4 c = arm _ _ _ 4 (c .before .match .keys4) (c .one-at .ensures)
 
 returns-5 : tie.Need-returns-5
 unfolding codeAt
@@ -57,7 +57,7 @@ returns-12 c = arm _ _ _ 12 (c .before .match .keys12) (c .arrival-at .ensures)
 
 returns-13 : tie.Need-returns-13
 unfolding codeAt
-returns-13 c = arm _ _ _ 13 (c .before .match .keys13) (c .collect-at .ensures)
+returns-13 c = arm _ _ _ 13 (c .before .match .keys13) (c .one-at2 .ensures)
 
 returns-14 : tie.Need-returns-14
 unfolding codeAt
@@ -69,11 +69,11 @@ returns-15 c = arm _ _ _ 15 (c .match .keys15) refl
 
 returns-16 : tie.Need-returns-16
 unfolding codeAt
-returns-16 c = arm _ _ _ 16 (c .before .match .keys16) (c .underrun-at .ensures)
+returns-16 c = arm _ _ _ 16 (c .before .match .keys16) (c .one-at3 .ensures)
 
 returns-17 : tie.Need-returns-17
 unfolding codeAt
-returns-17 c = arm _ _ _ 17 (c .before .match .keys17) (c .overrun-at .ensures)
+returns-17 c = arm _ _ _ 17 (c .before .match .keys17) (c .one-at4 .ensures)
 
 returns-18 : tie.Need-returns-18
 returns-18 c = let q = c .match .rest in unknown _ _ _ (q .0 .0 .0 .0 .0 .0 .0 .0 .0 .0 .0 .0 .0 .0 .0 .0 .1) (q .0 .0 .0 .0 .0 .0 .0 .0 .0 .0 .0 .0 .0 .0 .0 .1) (q .0 .0 .0 .0 .0 .0 .0 .0 .0 .0 .0 .0 .0 .0 .1) (q .0 .0 .0 .0 .0 .0 .0 .0 .0 .0 .0 .0 .0 .1) (q .0 .0 .0 .0 .0 .0 .0 .0 .0 .0 .0 .0 .1) (q .0 .0 .0 .0 .0 .0 .0 .0 .0 .0 .0 .1) (q .0 .0 .0 .0 .0 .0 .0 .0 .0 .0 .1) (q .0 .0 .0 .0 .0 .0 .0 .0 .0 .1) (q .0 .0 .0 .0 .0 .0 .0 .0 .1) (q .0 .0 .0 .0 .0 .0 .0 .1) (q .0 .0 .0 .0 .0 .0 .1) (q .0 .0 .0 .0 .0 .1) (q .0 .0 .0 .0 .1) (q .0 .0 .0 .1) (q .0 .0 .1) (q .0 .1) (q .1)

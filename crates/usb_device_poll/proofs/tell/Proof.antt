@@ -6,7 +6,7 @@ use Rattle.usb_device_poll.proofs.tell.Statement.{statement}
 use Rattle.usb_device_poll.proofs.tell.Tie as tie
 
 returns : tie.Need-returns
-returns c = told-data _ _ _ (c .if1 .taken) (c .before .setup-mask .ensures)
+returns c = told-data _ _ _ (c .if1 .taken) (c .before .weight .ensures .0)
 
 returns-2 : tie.Need-returns-2
 unfolding told

@@ -6,16 +6,16 @@ use Rattle.usb_device_read.proofs.own_tests_at.Statement.{statement}
 use Rattle.usb_device_read.proofs.own_tests_at.Tie as tie
 
 returns : tie.Need-returns
-returns c = own-blocked _ _ _ _ (c .before .rx-pkt-rdy .ensures) (c .if1 .taken)
+returns c = own-blocked _ _ _ _ (c .before .waits .ensures) (c .if1 .taken)
 
 returns-2 : tie.Need-returns-2
-returns-2 c = own-unreadable _ _ _ _ (c .before .before .before .rx-pkt-rdy .ensures) (c .before .before .if1 .left) (c .before .not-readable .ensures) (c .if2 .taken)
+returns-2 c = own-unreadable _ _ _ _ (c .before .before .before .waits .ensures) (c .before .before .if1 .left) (c .before .not-readable .ensures) (c .if2 .taken)
 
 returns-3 : tie.Need-returns-3
-returns-3 c = let d = c .before .before .before in own-by _ _ _ _ (d .before .before .rx-pkt-rdy .ensures) (d .before .if1 .left) (d .not-readable .ensures) (c .before .before .if2 .left) (c .before .not-setup .ensures) true (c .if3 .taken)
+returns-3 c = let d = c .before .before .before in own-by _ _ _ _ (d .before .before .waits .ensures) (d .before .if1 .left) (d .not-readable .ensures) (c .before .before .if2 .left) (c .before .not-setup .ensures) true (c .if3 .taken)
 
 returns-4 : tie.Need-returns-4
-returns-4 c = let d = c .before .before .before in own-by _ _ _ _ (d .before .before .rx-pkt-rdy .ensures) (d .before .if1 .left) (d .not-readable .ensures) (c .before .before .if2 .left) (c .before .not-setup .ensures) false (c .if3 .left)
+returns-4 c = let d = c .before .before .before in own-by _ _ _ _ (d .before .before .waits .ensures) (d .before .if1 .left) (d .not-readable .ensures) (c .before .before .if2 .left) (c .before .not-setup .ensures) false (c .if3 .left)
 
 pub own-tests-at-spec : {M : Type 1} → statement M
 own-tests-at-spec = tie.close (tie.spec (λ c κs. search needs) returns (λ c κs. search needs) returns-2 (λ c κs. search needs) returns-3

@@ -1,7 +1,7 @@
--- `events::waits` meets its contract. Assumes nothing.
+-- `regs::waits` meets its contract. Assumes nothing.
 use borrow.Author.Needs.{needs}
-use Rattle.events.proofs.waits.Statement.{statement}
-use Rattle.events.proofs.waits.Tie as tie
+use Rattle.regs.proofs.waits.Statement.{statement}
+use Rattle.regs.proofs.waits.Tie as tie
 
 returns : tie.Need-returns
 returns c = cc

@@ -1,7 +1,7 @@
--- `events::waiting_len` meets its contract. Assumes nothing.
+-- `regs::waiting_len` meets its contract. Assumes nothing.
 use borrow.Author.Needs.{needs}
-use Rattle.events.proofs.waiting_len.Statement.{statement}
-use Rattle.events.proofs.waiting_len.Tie as tie
+use Rattle.regs.proofs.waiting_len.Statement.{statement}
+use Rattle.regs.proofs.waiting_len.Tie as tie
 
 returns : tie.Need-returns
 returns c = cc
