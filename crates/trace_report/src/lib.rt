@@ -3,7 +3,7 @@ ghost use mathlib.Core.List.{[], _∷_};
 ghost use Prim.Native.Nat.{_+_, _*_, _≤_};
 ghost use lib.ListN.{length};
 ghost use Rattle.trace_rules.specs.Text.{Wrote};
-ghost use Rattle.trace_rules.specs.Lines.{numbers, line, header, endLine, badLine};
+ghost use Rattle.trace_rules.specs.Lines.{numbers, line, header, lastLine};
 
 // An entry's line begins with its code and reply.
 fn begin(out: &mut [u8], code: u8, reply: u8) -> usize
@@ -80,24 +80,13 @@ pub fn header_line(out: &mut [u8]) -> usize
     trace_text::put_text(out, 0, b"musb-trace 1\n")
 }
 
-// The last line of a report: the entry count.
-pub fn end_line(out: &mut [u8], count: u32) -> usize
+// The last line of a report: a word and a number.
+pub fn last_line(out: &mut [u8], word: &[u8; 3], n: u32) -> usize
     requires { ⌜ 100 ≤ length (now out) ⌝ }
-    ensures { λ r. ⌜ Wrote (now (out .entry)) (now (out .exit)) 0 r (endLine count) ⌝ }
+    ensures { λ r. ⌜ Wrote (now (out .entry)) (now (out .exit)) 0 r (lastLine (now (word .entry)) n) ⌝ }
     ensures { λ r. ⌜ r ≤ 100 ⌝ }
 {
-    let a = trace_text::put_text(out, 0, b"end");
-    let b = trace_text::put_field(out, a, count);
-    trace_text::put(out, b, 10)
-}
-
-// The last line of a report that stops at a bad entry: the offset of its first byte.
-pub fn bad_line(out: &mut [u8], at: u32) -> usize
-    requires { ⌜ 100 ≤ length (now out) ⌝ }
-    ensures { λ r. ⌜ Wrote (now (out .entry)) (now (out .exit)) 0 r (badLine at) ⌝ }
-    ensures { λ r. ⌜ r ≤ 100 ⌝ }
-{
-    let a = trace_text::put_text(out, 0, b"bad");
-    let b = trace_text::put_field(out, a, at);
+    let a = trace_text::put_text(out, 0, word);
+    let b = trace_text::put_field(out, a, n);
     trace_text::put(out, b, 10)
 }

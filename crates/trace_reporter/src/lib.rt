@@ -9,7 +9,7 @@ ghost use Prim.Native.Nat.{_+_, _≤_};
 ghost use lib.ListN.{length, take, replicate};
 ghost use Rattle.board.specs.declared.Board.the-variants.{Display};
 ghost use Rattle.record.specs.Record.{freshRecord};
-ghost use Rattle.trace_rules.specs.Lines.{header, endLine, badLine};
+ghost use Rattle.trace_rules.specs.Lines.{header, lastLine};
 ghost use Rattle.report_rules.specs.Report.{beginning, reportFor, reportOf};
 ghost use Rattle.report_rules.specs.Runs.{Has, Completes};
 ghost use Rattle.trace_reporter.specs.Under.{Under};
@@ -38,27 +38,20 @@ fn put(trace: &[u8], k: Record, first: &[u8; 1664], done: &mut usize, line: &[u8
     *done += len;
 }
 
-// The last line: it ends the report from the record k and the FIFO memory that stood there at first.
-fn put_end(
+// The last line, a word and a number: it ends the report from the record k and the FIFO memory that stood there at first.
+fn put_last(
     trace: &[u8],
     k: Record,
     first: &[u8; 1664],
     done: &mut usize,
     line: &mut [u8],
-    count: u32,
+    word: &[u8; 3],
+    n: u32,
 )
-    requires { ⌜ (8192 ≤ length (now line)) × (now done ≤ 900000000) × Completes (beginning k (now first)) (now trace) (now done) (endLine count) ⌝ }
+    requires { ⌜ (8192 ≤ length (now line)) × (now done ≤ 900000000) × Completes (beginning k (now first)) (now trace) (now done) (lastLine (now word) n) ⌝ }
     ensures { λ _. ⌜ now (done .exit) ≡ length (reportFor (beginning k (now (first .entry))) (now (trace .entry))) ⌝ }
 {
-    let len = trace_report::end_line(line, count);
-    put(trace, k, first, done, line, len);
-}
-
-fn put_bad(trace: &[u8], k: Record, first: &[u8; 1664], done: &mut usize, line: &mut [u8], at: u32)
-    requires { ⌜ (8192 ≤ length (now line)) × (now done ≤ 900000000) × Completes (beginning k (now first)) (now trace) (now done) (badLine at) ⌝ }
-    ensures { λ _. ⌜ now (done .exit) ≡ length (reportFor (beginning k (now (first .entry))) (now (trace .entry))) ⌝ }
-{
-    let len = trace_report::bad_line(line, at);
+    let len = trace_report::last_line(line, word, n);
     put(trace, k, first, done, line, len);
 }
 
@@ -106,11 +99,11 @@ fn put_entries(trace: &[u8], detail: bool, start: Record, first: [u8; 1664], don
                 count += 1;
             }
             Came::End => {
-                put_end(trace, start, &first, done, &mut line, count);
+                put_last(trace, start, &first, done, &mut line, b"end", count);
                 return;
             }
             Came::Bad => {
-                put_bad(trace, start, &first, done, &mut line, at as u32);
+                put_last(trace, start, &first, done, &mut line, b"bad", at as u32);
                 return;
             }
         }
@@ -127,7 +120,7 @@ pub fn put_report(trace: &[u8], detail: bool, start: Record, first: [u8; 1664]) 
     let len = trace_report::header_line(&mut line);
     put(trace, start, &first, &mut done, &line, len);
     if 65536 < trace.len() {
-        put_bad(trace, start, &first, &mut done, &mut line, 65536);
+        put_last(trace, start, &first, &mut done, &mut line, b"bad", 65536);
         return done;
     }
     put_entries(trace, detail, start, first, &mut done);

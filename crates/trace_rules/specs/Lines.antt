@@ -20,10 +20,14 @@ line ns = numbers ns ++ newline
 unfoldable pub header : List ℕ
 header = 109 ∷ 117 ∷ 115 ∷ 98 ∷ 45 ∷ 116 ∷ 114 ∷ 97 ∷ 99 ∷ 101 ∷ 32 ∷ 49 ∷ newline
 
+-- the last line is a word and a number
+abbrev pub lastLine : List ℕ → ℕ → List ℕ
+lastLine word n = (word ++ field n) ++ newline
+
 -- "`end` and the entry count"
 unfoldable pub endLine : ℕ → List ℕ
-endLine n = ((101 ∷ 110 ∷ 100 ∷ []) ++ field n) ++ newline
+endLine n = lastLine (101 ∷ 110 ∷ 100 ∷ []) n
 
 -- "`bad` and the offset of its first byte"
 unfoldable pub badLine : ℕ → List ℕ
-badLine at = ((98 ∷ 97 ∷ 100 ∷ []) ++ field at) ++ newline
+badLine at = lastLine (98 ∷ 97 ∷ 100 ∷ []) at
