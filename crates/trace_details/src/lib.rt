@@ -8,7 +8,7 @@ use record::Record;
 use trace_text::wide_word;
 ghost use mathlib.Core.Path.{_≡_};
 ghost use mathlib.Core.List.{_++_};
-ghost use Prim.Native.Nat.{_+_, _*_, _≤_, _<_};
+ghost use Prim.Native.Nat.{_+_, _*_, _≤_};
 ghost use lib.ListN.{length};
 ghost use Rattle.trace_rules.specs.Text.{Wrote, fields};
 ghost use Rattle.detail_rules.specs.DetailLines.{store, stores, storesLine, recordLine};
