@@ -1,15 +1,22 @@
 -- What the first tests of a write or a read let through. Where reply 15 is not given, the FIFO buffer holds every area and the list 128 stores.
 -- Assumes nothing.
-use Prim.Native.Nat.{ℕ, _≤_}
-use mathlib.Core.Path.{_≡_}
+use Prim.Native.Nat.{ℕ, _≤_, _<_}
+use mathlib.Core.Path.{_≡_, sym, ap, _∙_}
+use mathlib.Core.Logic.{_↔_, _⊎_}
 use mathlib.Core.Bool.{true, false}
 use borrow.Author.Tests.{ltb-false}
 use lib.Dec.{leb, ltb}
 use Rattle.laws.proofs.Tests.{neither}
 use Rattle.board.specs.declared.Board.{Board}
 use Rattle.record.specs.declared.Record.{Record}
+use Rattle.record.specs.declared.Refusal.{Refusal}
+use Rattle.record.specs.declared.Admission.{Admission}
+use Rattle.record.specs.declared.Admission.the-variants as admission
 use Rattle.record.specs.Record.{needIn, needOf, endpointsOf, recordSound}
-use Rattle.transfer_rules.specs.Peek.{shortIn, short}
+use Rattle.record.proofs.Rows.{tells-under, tells-either}
+use Rattle.transfer_rules.specs.declared.Verdict.{Verdict}
+use Rattle.transfer_rules.specs.declared.Verdict.the-variants as verdict
+use Rattle.transfer_rules.specs.Peek.{shortIn, short, testsBy}
 
 pub enough : (b : Board) (f l : ℕ) → shortIn b f l ≡ false → (needIn b ≤ f) × (384 ≤ l)
 unfolding shortIn
@@ -24,3 +31,16 @@ pub record Admitted (k : Record) (ep fifo list : ℕ) : Type 0 where
   pub lent : short k fifo list ≡ false
   pub passes : recordSound k ≡ true
   pub there : leb (endpointsOf k) ep ≡ false
+
+-- the tests of a call, once the first three have come to a: its own where these are passed
+module _ {a first : Admission} (own : Verdict) (is : a ≡ first) where
+  pub tests-clear : {v : Verdict} → a ≡ admission.Clear → v ≡ own → v ≡ testsBy first own
+  tests-clear e p = p ∙ ap (λ (x : Admission). testsBy x own) (sym e ∙ is)
+
+  pub tests-refused : {x : Refusal} → a ≡ admission.Refused x → verdict.Refused x ≡ testsBy first own
+  tests-refused e = ap (λ (x : Admission). testsBy x own) (sym e ∙ is)
+
+-- reply 15's row and its test
+pub says-short : (k : Record) (f l : ℕ) → short k f l ≡ true ↔ ((f < needOf k) ⊎ (l < 384))
+unfolding short shortIn needOf
+says-short k f l = tells-either (ltb f (needOf k)) (ltb l 384) (tells-under f (needOf k)) (tells-under l 384)

@@ -13,9 +13,9 @@ use Rattle.register_file.specs.Registers.{sideAt}
 use Rattle.control_state.specs.Numbers.{stateNumber}
 use Rattle.control_state.specs.declared.ControlStateEnum.{ControlStateEnum}
 use Rattle.control_state.specs.declared.ControlStateEnum.the-variants.{Idle, Setup, DataIn, DataOut, Accepted, NodataPhase}
-use Rattle.transfer_rules.specs.Peek.{shortIn, short}
+use Rattle.transfer_rules.specs.Peek.{short}
 use Rattle.record.specs.declared.Record.{Record}
-use Rattle.record.specs.Record.{needOf, endpointsOf, recordSound}
+use Rattle.record.specs.Record.{endpointsOf, recordSound}
 use Rattle.record.specs.Rows as rows
 use Rattle.record.specs.Rows.{Replies}
 use Rattle.record.proofs.Rows.{exactly, none-left, tested, tells-not, tells-under, tells-from, tells-is, tells-clear, tells-bad, tells-either, tells-both}
@@ -26,6 +26,7 @@ use Rattle.transfer_rules.specs.Read.{readCall}
 use Rattle.transfer_rules.specs.ReadReplies.{Unreadable, Unset, readRows}
 use Rattle.transfer_rules.proofs.ReadCases.{nothingWaits, notReadable, notSetup, ReadCase, done, blocks, beyond, unreadable, unset, little, unsound}
 use Rattle.transfer_rules.proofs.ReadAnswers as answers
+use Rattle.transfer_rules.proofs.Lent.{says-short}
 
 -- the rows of 12 and 13, state by state
 other : {s t : ControlStateEnum} → (stateNumber s ≡ stateNumber t → ⊥) → s ≡ t → ⊥
@@ -58,10 +59,6 @@ unset-says s len room = (to s, from)
 
 module _ (k : Record) (ep n f l : ℕ) where
   -- what each test tells
-  says-short : short k f l ≡ true ↔ ((f < needOf k) ⊎ (l < 384))
-  unfolding short shortIn needOf
-  says-short = tells-either (ltb f (needOf k)) (ltb l 384) (tells-under f (needOf k)) (tells-under l 384)
-
   says-ready : nothingWaits k ep ≡ true ↔ sideAt (k .regs .words) ep Out .ready ≡ false
   says-ready = tells-clear (sideAt (k .regs .words) ep Out .ready)
 
@@ -81,7 +78,7 @@ module _ (k : Record) (ep n f l : ℕ) where
 
   by-rows : rows.Given decided (readRows k ep n f l)
   by-rows =
-      tested 15 _ _ _ says-short
+      tested 15 _ _ _ (says-short k f l)
       (tested 16 _ _ _ (tells-bad k) (tested 8 _ _ _ (tells-from (endpointsOf k) ep) (tested 6 _ _ _ says-ready (tested 12 _ _ _ says-unreadable (tested 13 _ _ _ says-unset none-left)))))
 
   by-cases : {m : ℕ} → ReadCase k ep n f l m → m ≡ decided

@@ -1,24 +1,24 @@
 -- Which reply a write gives: the number of the first of its rows that holds. Assumes nothing.
 use Prim.Native.Nat.{ℕ, _<_}
 use mathlib.Core.Path.{_≡_, refl, sym, ap, _∙_}
-use mathlib.Core.Logic.{_↔_, _⊎_, inl, inr}
+use mathlib.Core.Logic.{_↔_, inl, inr}
 use mathlib.Core.Bool.{true, not, cond}
 use mathlib.Core.List.{List}
 use native.Mathlib.Omega.{arith}
 use borrow.Author.Tests.{eqb-false, ne-eqb, not-true}
-use lib.Dec.{leb, ltb, eqb}
+use lib.Dec.{leb, eqb}
 use lib.ListN.{length}
 use Rattle.laws.proofs.Tests.{clash}
 use Rattle.board.specs.declared.Direction.the-variants.{In}
 use Rattle.register_file.specs.Registers.{sideAt}
 use Rattle.control_state.specs.declared.ControlStateEnum.{ControlStateEnum}
 use Rattle.control_state.specs.declared.ControlStateEnum.the-variants.{Idle, Setup, DataIn, DataOut, Accepted, NodataPhase}
-use Rattle.transfer_rules.specs.Peek.{shortIn, short}
+use Rattle.transfer_rules.specs.Peek.{short}
 use Rattle.record.specs.declared.Record.{Record}
-use Rattle.record.specs.Record.{areaOf, needOf, endpointsOf, recordSound}
+use Rattle.record.specs.Record.{areaOf, endpointsOf, recordSound}
 use Rattle.record.specs.Rows as rows
 use Rattle.record.specs.Rows.{Replies}
-use Rattle.record.proofs.Rows.{exactly, none-left, tested, tells-under, tells-from, tells-is, tells-set, tells-bad, tells-either, tells-both}
+use Rattle.record.proofs.Rows.{exactly, none-left, tested, tells-under, tells-from, tells-is, tells-set, tells-bad, tells-both}
 use Rattle.transfer_rules.specs.WriteTests as write
 use Rattle.transfer_rules.specs.WriteTests.{untakenIn}
 use Rattle.transfer_rules.specs.WriteZero.{writeNumber}
@@ -26,6 +26,7 @@ use Rattle.transfer_rules.specs.Write.{writeCall}
 use Rattle.transfer_rules.specs.WriteReplies.{Untaken, writeRows}
 use Rattle.transfer_rules.proofs.WriteCases.{uncollected, tooLong, notWritable, WriteCase, done, blocks, beyond, long, untaken, little, unsound}
 use Rattle.transfer_rules.proofs.WriteAnswers as answers
+use Rattle.transfer_rules.proofs.Lent.{says-short}
 
 -- the row of 11, state by state
 some : (n : ℕ) → not (eqb n 0) ≡ true ↔ 0 < n
@@ -51,10 +52,6 @@ untaken-says s n = (to s, from)
 
 module _ (k : Record) (ep n f l : ℕ) where
   -- what each test tells
-  says-short : short k f l ≡ true ↔ ((f < needOf k) ⊎ (l < 384))
-  unfolding short shortIn needOf
-  says-short = tells-either (ltb f (needOf k)) (ltb l 384) (tells-under f (needOf k)) (tells-under l 384)
-
   says-ready : uncollected k ep ≡ true ↔ sideAt (k .regs .words) ep In .ready ≡ true
   says-ready = tells-set (sideAt (k .regs .words) ep In .ready)
 
@@ -72,7 +69,7 @@ module _ (k : Record) (ep n f l : ℕ) where
 
   by-rows : rows.Given decided (writeRows k ep n f l)
   by-rows =
-      tested 15 _ _ _ says-short
+      tested 15 _ _ _ (says-short k f l)
       (tested 16 _ _ _ (tells-bad k) (tested 8 _ _ _ (tells-from (endpointsOf k) ep) (tested 6 _ _ _ says-ready (tested 9 _ _ _ says-long (tested 11 _ _ _ says-untaken none-left)))))
 
   by-cases : {m : ℕ} → WriteCase k ep n f l m → m ≡ decided

@@ -4,7 +4,7 @@
 use Prim.Native.Nat.{ℕ}
 use mathlib.Core.Bool.{Bool, _||_}
 use mathlib.Core.List.{List}
-use lib.Dec.{ltb}
+use lib.Dec.{leb, ltb}
 use Rattle.board.specs.declared.Board.{Board}
 use Rattle.board.specs.declared.Direction.the-variants.{Out, In}
 use Rattle.csr.specs.declared.Csr0lSet.the-variants.{DataEnd}
@@ -15,7 +15,7 @@ use Rattle.record.specs.declared.Flags.{Flags}
 use Rattle.record.specs.declared.Record.{Record}
 use Rattle.record.specs.declared.Admission.{Admission}
 use Rattle.record.specs.declared.Admission.the-variants as admission
-use Rattle.record.specs.Record.{needIn, listNeed, refusalNumber}
+use Rattle.record.specs.Record.{needIn, endpointsIn, passes, admissionBy, listNeed, refusalNumber}
 use Rattle.transfer_rules.specs.declared.Verdict.{Verdict}
 use Rattle.transfer_rules.specs.declared.Verdict.the-variants as verdict
 use Rattle.transfer_rules.specs.declared.Served.{Served}
@@ -38,7 +38,11 @@ rxPktRdy e w = sideAt w e Out .ready
 abbrev pub rxCount : ℕ → File → ℕ
 rxCount e w = sideAt w e Out .len
 
--- "Order: 15, 16, 8, then ..": the three that come first in every call, and then the call's own
+-- "Order: 15, 16, 8, then ..": the three that come first,
+abbrev pub firstTests : Board → File → Flags → ℕ → ℕ → ℕ → Admission
+firstTests b w f ep fifo list = admissionBy (shortIn b fifo list) (passes b w f) (leb (endpointsIn b) ep)
+
+-- and then the call's own
 abbrev pub testsBy : Admission → Verdict → Verdict
 testsBy admission.Clear own = own
 testsBy (admission.Refused x) own = verdict.Refused x

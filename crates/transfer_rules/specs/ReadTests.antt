@@ -2,19 +2,18 @@
 -- Assumes nothing.
 use Prim.Native.Nat.{ℕ}
 use mathlib.Core.Bool.{Bool, true, false, not, _&&_, _||_}
-use lib.Dec.{leb, ltb, eqb}
+use lib.Dec.{ltb, eqb}
 use Rattle.board.specs.declared.Board.{Board}
 use Rattle.register_file.specs.Registers.{File}
 use Rattle.transfer_rules.specs.declared.Verdict.{Verdict}
 use Rattle.transfer_rules.specs.declared.Verdict.the-variants as verdict
-use Rattle.transfer_rules.specs.Peek.{shortIn, rxPktRdy, rxCount, testsBy}
+use Rattle.transfer_rules.specs.Peek.{firstTests, rxPktRdy, rxCount, testsBy}
 use Rattle.control_state.specs.declared.ControlState.{ControlState}
 use Rattle.control_state.specs.declared.ControlStateEnum.{ControlStateEnum}
 use Rattle.control_state.specs.declared.ControlStateEnum.the-variants.{Idle, Setup, DataIn, DataOut, Accepted, NodataPhase}
 use Rattle.record.specs.declared.Flags.{Flags}
 use Rattle.record.specs.declared.Record.{Record}
 use Rattle.record.specs.declared.Refusal.the-variants.{NotReadable, NotSetup}
-use Rattle.record.specs.Record.{endpointsIn, passes, admissionBy}
 
 -- the tests --------------------------------------------------------------------------------------------------------------------
 
@@ -59,7 +58,7 @@ ownTestsAt w c ep room = ownTests (not (rxPktRdy ep w)) (notReadable c ep) (notS
 
 -- "Order: 15, 16, 8, then .."
 unfoldable pub testsIn : Board → File → ControlState → Flags → ℕ → ℕ → ℕ → ℕ → Verdict
-testsIn b w c f ep room fifo list = testsBy (admissionBy (shortIn b fifo list) (passes b w f) (leb (endpointsIn b) ep)) (ownTestsAt w c ep room)
+testsIn b w c f ep room fifo list = testsBy (firstTests b w f ep fifo list) (ownTestsAt w c ep room)
 
 unfoldable pub tests : Record → ℕ → ℕ → ℕ → ℕ → Verdict
 tests k ep room fifo list = testsIn (k .regs .board) (k .regs .words) (k .«control_state») (k .irq) ep room fifo list

@@ -2,11 +2,11 @@
 -- Assumes nothing.
 use Prim.Native.Nat.{ℕ}
 use mathlib.Core.Bool.{Bool, true, false, not, _&&_}
-use lib.Dec.{leb, ltb, eqb}
+use lib.Dec.{ltb, eqb}
 use Rattle.board.specs.declared.Board.{Board}
 use Rattle.board.specs.declared.Direction.the-variants.{In}
 use Rattle.register_file.specs.Registers.{File}
-use Rattle.transfer_rules.specs.Peek.{shortIn, txPktRdy, testsBy}
+use Rattle.transfer_rules.specs.Peek.{firstTests, txPktRdy, testsBy}
 use Rattle.transfer_rules.specs.declared.Verdict.{Verdict}
 use Rattle.transfer_rules.specs.declared.Verdict.the-variants as verdict
 use Rattle.control_state.specs.declared.ControlState.{ControlState}
@@ -15,7 +15,7 @@ use Rattle.control_state.specs.declared.ControlStateEnum.the-variants.{Idle, Se
 use Rattle.record.specs.declared.Flags.{Flags}
 use Rattle.record.specs.declared.Record.{Record}
 use Rattle.record.specs.declared.Refusal.the-variants.{TooLong, NotWritable}
-use Rattle.record.specs.Record.{areaIn, endpointsIn, passes, admissionBy}
+use Rattle.record.specs.Record.{areaIn}
 
 -- the tests --------------------------------------------------------------------------------------------------------------------
 
@@ -48,7 +48,7 @@ ownTestsAt b w c ep n = ownTests (txPktRdy ep w) (tooLong b ep n) (notWritable c
 
 -- "Order: 15, 16, 8, then .."
 unfoldable pub testsIn : Board → File → ControlState → Flags → ℕ → ℕ → ℕ → ℕ → Verdict
-testsIn b w c f ep n fifo list = testsBy (admissionBy (shortIn b fifo list) (passes b w f) (leb (endpointsIn b) ep)) (ownTestsAt b w c ep n)
+testsIn b w c f ep n fifo list = testsBy (firstTests b w f ep fifo list) (ownTestsAt b w c ep n)
 
 unfoldable pub tests : Record → ℕ → ℕ → ℕ → ℕ → Verdict
 tests k ep n fifo list = testsIn (k .regs .board) (k .regs .words) (k .«control_state») (k .irq) ep n fifo list

@@ -1,9 +1,17 @@
 -- `usb_device_write::refusal` meets its contract. Assumes nothing.
-use Rattle.transfer_rules.proofs.WriteTests.{tests-clear, tests-refused}
+use Rattle.transfer_rules.specs.WriteTests.{testsIn}
+use Rattle.transfer_rules.proofs.Lent.{tests-clear, tests-refused}
 use borrow.Author.Needs.{needs}
 use Rattle.usb_device_write.proofs.refusal.Statement.{statement}
 use Rattle.usb_device_write.proofs.refusal.Tie as tie
 
+returns : tie.Need-returns
+unfolding testsIn
+returns c = tests-clear _ (c .before .before .before .admit .ensures) (c .before .enum-told .given .1) (c .own-tests-at .ensures)
+
+returns-2 : tie.Need-returns-2
+unfolding testsIn
+returns-2 c = tests-refused _ (c .before .before .before .admit .ensures) (c .before .a .given .1)
+
 pub refusal-spec : {M : Type 1} → statement M
-refusal-spec = tie.close (tie.spec (λ c κs. search needs) (λ c κs. search needs) (λ c κs. search needs) (λ c. search needs)
-    (λ c κs. search needs) (λ c. search needs) (λ c. search (tests-clear, needs)) (λ c. search (tests-refused, needs)))
+refusal-spec = tie.close (tie.spec (λ c κs. search needs) (λ c. search needs) (λ c κs. search needs) (λ c. search needs) returns returns-2)
