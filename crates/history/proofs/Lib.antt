@@ -12,3 +12,4 @@ pub mod Fetching
 pub mod Demand
 pub mod Sample
 pub mod Histories
+pub mod Demands
