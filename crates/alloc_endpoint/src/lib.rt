@@ -16,6 +16,84 @@ ghost use Rattle.endpoints.specs.Endpoints.{ask};
 ghost use Rattle.endpoints.specs.Check.{given};
 ghost use Rattle.endpoints.specs.Allocate.{checkAt, answerTo, allocate};
 
+pub fn alloc_endpoint(
+    board: Board,
+    endpoints: [EndpointData; 6],
+    ep_type: EndpointType,
+    ep_index: Wanted,
+    direction: Direction,
+    max_packet_size: u16,
+) -> Allocated
+    ensures { λ r. ⌜ r ≡ allocate (rows board) endpoints (ask «ep_type» direction «max_packet_size») «ep_index» ⌝ }
+{
+    let answer = choose(
+        board,
+        endpoints,
+        ep_type,
+        ep_index,
+        direction,
+        max_packet_size,
+    );
+    match answer {
+        Answer::Done(index) => Allocated {
+            endpoints: give(endpoints, ep_type, index, direction, max_packet_size),
+            answer: Answer::Done(index),
+        },
+        Answer::Refused(e) => Allocated {
+            endpoints,
+            answer: Answer::Refused(e),
+        },
+    }
+}
+
+// Which endpoint is given, or why none is. Nothing has changed yet.
+fn choose(
+    board: Board,
+    endpoints: [EndpointData; 6],
+    ep_type: EndpointType,
+    ep_index: Wanted,
+    direction: Direction,
+    max_packet_size: u16,
+) -> Answer
+    ensures { λ r. ⌜ r ≡ answerTo (rows board) endpoints (ask «ep_type» direction «max_packet_size») «ep_index» ⌝ }
+{
+    match ep_index {
+        Wanted::Number(index) => alloc_wanted(
+            board,
+            endpoints,
+            ep_type,
+            index,
+            direction,
+            max_packet_size,
+        ),
+        Wanted::Any => alloc_any(board, endpoints, ep_type, direction, max_packet_size),
+    }
+}
+
+// A number is wanted: 0 is never checked.
+fn alloc_wanted(
+    board: Board,
+    endpoints: [EndpointData; 6],
+    ep_type: EndpointType,
+    index: u8,
+    direction: Direction,
+    max_packet_size: u16,
+) -> Answer
+    ensures { λ r. ⌜ r ≡ answerTo (rows board) endpoints (ask «ep_type» direction «max_packet_size») (Wanted.Number index) ⌝ }
+{
+    if index >= board::endpoints(board) {
+        return Answer::Refused(EndpointAllocError::InvalidEndpoint);
+    }
+    if index == 0 {
+        return Answer::Done(0);
+    }
+    let c = check_at(board, endpoints, ep_type, index, direction, max_packet_size);
+    match c {
+        Checked::Passes => Answer::Done(index),
+        Checked::Fails(e) => Answer::Refused(e),
+    }
+}
+
 // The check of the endpoint at a number.
 fn check_at(
     board: Board,
@@ -54,30 +132,6 @@ fn alloc_any(
     Answer::Refused(EndpointAllocError::EndpointOverflow)
 }
 
-// A number is wanted: 0 is never checked.
-fn alloc_wanted(
-    board: Board,
-    endpoints: [EndpointData; 6],
-    ep_type: EndpointType,
-    index: u8,
-    direction: Direction,
-    max_packet_size: u16,
-) -> Answer
-    ensures { λ r. ⌜ r ≡ answerTo (rows board) endpoints (ask «ep_type» direction «max_packet_size») (Wanted.Number index) ⌝ }
-{
-    if index >= board::endpoints(board) {
-        return Answer::Refused(EndpointAllocError::InvalidEndpoint);
-    }
-    if index == 0 {
-        return Answer::Done(0);
-    }
-    let c = check_at(board, endpoints, ep_type, index, direction, max_packet_size);
-    match c {
-        Checked::Passes => Answer::Done(index),
-        Checked::Fails(e) => Answer::Refused(e),
-    }
-}
-
 fn give(
     endpoints: [EndpointData; 6],
     ep_type: EndpointType,
@@ -93,58 +147,4 @@ fn give(
     let mut next = endpoints;
     next[i] = endpoint_ops::marked(ep, ep_type, direction, max_packet_size);
     next
-}
-
-// Which endpoint is given, or why none is. Nothing has changed yet.
-fn choose(
-    board: Board,
-    endpoints: [EndpointData; 6],
-    ep_type: EndpointType,
-    ep_index: Wanted,
-    direction: Direction,
-    max_packet_size: u16,
-) -> Answer
-    ensures { λ r. ⌜ r ≡ answerTo (rows board) endpoints (ask «ep_type» direction «max_packet_size») «ep_index» ⌝ }
-{
-    match ep_index {
-        Wanted::Number(index) => alloc_wanted(
-            board,
-            endpoints,
-            ep_type,
-            index,
-            direction,
-            max_packet_size,
-        ),
-        Wanted::Any => alloc_any(board, endpoints, ep_type, direction, max_packet_size),
-    }
-}
-
-pub fn alloc_endpoint(
-    board: Board,
-    endpoints: [EndpointData; 6],
-    ep_type: EndpointType,
-    ep_index: Wanted,
-    direction: Direction,
-    max_packet_size: u16,
-) -> Allocated
-    ensures { λ r. ⌜ r ≡ allocate (rows board) endpoints (ask «ep_type» direction «max_packet_size») «ep_index» ⌝ }
-{
-    let answer = choose(
-        board,
-        endpoints,
-        ep_type,
-        ep_index,
-        direction,
-        max_packet_size,
-    );
-    match answer {
-        Answer::Done(index) => Allocated {
-            endpoints: give(endpoints, ep_type, index, direction, max_packet_size),
-            answer: Answer::Done(index),
-        },
-        Answer::Refused(e) => Allocated {
-            endpoints,
-            answer: Answer::Refused(e),
-        },
-    }
 }

@@ -19,18 +19,7 @@ pub fn bus_init(w: &mut [u16; 46], list: &mut [u16], n: usize) -> usize
     stores::write_intre(w, list, b, Direction::In, 0xFF)
 }
 
-// The source's `write` of CSR0L: from zeros, with the two bits that its closures may set.
-fn stall_csr0l(w: &mut [u16; 46], list: &mut [u16], n: usize, stall: bool, serviced: bool) -> usize
-    requires { ⌜ n * 3 + 3 ≤ length (now list) ⌝ }
-    ensures { λ m. ⌜ (log (now (w .exit)) (now (list .exit)) m ≡ stallCsr0l stall serviced (log (now (w .entry)) (now (list .entry)) n)) × (m ≡ n + 1) ⌝ }
-{
-    let mut v = csr_ops::zero_csr0l();
-    v.send_stall = stall;
-    v.serviced_rx_pkt_rdy = serviced;
-    stores::write_csr0l(w, list, n, v)
-}
-
-// The same of RXCSRL and TXCSRL.
+// A `write` of RXCSRL or TXCSRL, which starts from all zeros: SendStall and ClrDataTog alone.
 pub fn write_csrl(
     w: &mut [u16; 46],
     list: &mut [u16],
@@ -58,6 +47,13 @@ pub fn write_csrl(
     }
 }
 
+pub fn ep_tx_stall(w: &mut [u16; 46], list: &mut [u16], n: usize, index: u8, stalled: bool) -> usize
+    requires { ⌜ n * 3 + 6 ≤ length (now list) ⌝ }
+    ensures { λ m. ⌜ (log (now (w .exit)) (now (list .exit)) m ≡ epTxStall index stalled (log (now (w .entry)) (now (list .entry)) n)) × (m ≡ n + 2) ⌝ }
+{
+    stall(w, list, n, Direction::In, index, stalled, false)
+}
+
 fn stall(
     w: &mut [u16; 46],
     list: &mut [u16],
@@ -77,11 +73,15 @@ fn stall(
     write_csrl(w, list, a, d, stalled, !stalled)
 }
 
-pub fn ep_tx_stall(w: &mut [u16; 46], list: &mut [u16], n: usize, index: u8, stalled: bool) -> usize
-    requires { ⌜ n * 3 + 6 ≤ length (now list) ⌝ }
-    ensures { λ m. ⌜ (log (now (w .exit)) (now (list .exit)) m ≡ epTxStall index stalled (log (now (w .entry)) (now (list .entry)) n)) × (m ≡ n + 2) ⌝ }
+// The source's `write` of CSR0L: from zeros, with the two bits that its closures may set.
+fn stall_csr0l(w: &mut [u16; 46], list: &mut [u16], n: usize, stall: bool, serviced: bool) -> usize
+    requires { ⌜ n * 3 + 3 ≤ length (now list) ⌝ }
+    ensures { λ m. ⌜ (log (now (w .exit)) (now (list .exit)) m ≡ stallCsr0l stall serviced (log (now (w .entry)) (now (list .entry)) n)) × (m ≡ n + 1) ⌝ }
 {
-    stall(w, list, n, Direction::In, index, stalled, false)
+    let mut v = csr_ops::zero_csr0l();
+    v.send_stall = stall;
+    v.serviced_rx_pkt_rdy = serviced;
+    stores::write_csr0l(w, list, n, v)
 }
 
 pub fn ep_rx_stall(w: &mut [u16; 46], list: &mut [u16], n: usize, index: u8, stalled: bool) -> usize
@@ -91,19 +91,11 @@ pub fn ep_rx_stall(w: &mut [u16; 46], list: &mut [u16], n: usize, index: u8, sta
     stall(w, list, n, Direction::Out, index, stalled, stalled)
 }
 
-fn send_stall(w: &[u16; 46], d: Direction) -> bool
-    ensures { λ b. ⌜ b ≡ sendStall d (now (w .entry)) ⌝ }
+pub fn ep_rx_is_stalled(w: &mut [u16; 46], list: &mut [u16], n: usize, index: u8) -> Stalled
+    requires { ⌜ n * 3 + 3 ≤ length (now list) ⌝ }
+    ensures { λ o. ⌜ (log (now (w .exit)) (now (list .exit)) (o .n) ≡ writeIndex index (log (now (w .entry)) (now (list .entry)) n)) × (o .stalled ≡ isStalled Out index (log (now (w .entry)) (now (list .entry)) n)) × (o .n ≡ n + 1) ⌝ }
 {
-    match d {
-        Direction::Out => {
-            let v = regs::read_rxcsrl(w);
-            v.send_stall
-        }
-        Direction::In => {
-            let v = regs::read_txcsrl(w);
-            v.send_stall
-        }
-    }
+    is_stalled(w, list, n, Direction::Out, index)
 }
 
 fn is_stalled(w: &mut [u16; 46], list: &mut [u16], n: usize, d: Direction, index: u8) -> Stalled
@@ -124,11 +116,19 @@ fn is_stalled(w: &mut [u16; 46], list: &mut [u16], n: usize, d: Direction, index
     }
 }
 
-pub fn ep_rx_is_stalled(w: &mut [u16; 46], list: &mut [u16], n: usize, index: u8) -> Stalled
-    requires { ⌜ n * 3 + 3 ≤ length (now list) ⌝ }
-    ensures { λ o. ⌜ (log (now (w .exit)) (now (list .exit)) (o .n) ≡ writeIndex index (log (now (w .entry)) (now (list .entry)) n)) × (o .stalled ≡ isStalled Out index (log (now (w .entry)) (now (list .entry)) n)) × (o .n ≡ n + 1) ⌝ }
+fn send_stall(w: &[u16; 46], d: Direction) -> bool
+    ensures { λ b. ⌜ b ≡ sendStall d (now (w .entry)) ⌝ }
 {
-    is_stalled(w, list, n, Direction::Out, index)
+    match d {
+        Direction::Out => {
+            let v = regs::read_rxcsrl(w);
+            v.send_stall
+        }
+        Direction::In => {
+            let v = regs::read_txcsrl(w);
+            v.send_stall
+        }
+    }
 }
 
 pub fn ep_tx_is_stalled(w: &mut [u16; 46], list: &mut [u16], n: usize, index: u8) -> Stalled

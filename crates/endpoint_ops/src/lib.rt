@@ -47,28 +47,6 @@ pub fn same_type(a: EndpointType, b: EndpointType) -> bool
     type_number(a) == type_number(b)
 }
 
-fn used_dir(ep: EndpointData, direction: Direction) -> bool
-    ensures { λ r. ⌜ r ≡ usedIn ep direction ⌝ }
-{
-    match direction {
-        Direction::Out => ep.used_rx,
-        Direction::In => ep.used_tx,
-    }
-}
-
-// The last two tests of the source's `check_endpoint`, which give one reply: bulk on a used endpoint; used, with another type or that same
-// direction.
-fn is_in_use(ep: EndpointData, alloc_ep_type: EndpointType, direction: Direction) -> bool
-    ensures { λ r. ⌜ r ≡ inUse ep «alloc_ep_type» direction ⌝ }
-{
-    let conf = ep.ep_conf;
-    let had = conf.ep_type;
-    let used = ep.used_rx | ep.used_tx;
-    let bulk = same_type(alloc_ep_type, EndpointType::Bulk);
-    let other = !same_type(had, alloc_ep_type);
-    (bulk & used) | (used & (other | used_dir(ep, direction)))
-}
-
 // The order of the tests is the source's: size, direction, use.
 pub fn check_endpoint(
     board: Board,
@@ -91,6 +69,28 @@ pub fn check_endpoint(
         return Checked::Fails(EndpointAllocError::EpUsed);
     }
     Checked::Passes
+}
+
+// The last two tests of the source's `check_endpoint`, which give one reply: bulk on a used endpoint; used, with another type or that same
+// direction.
+fn is_in_use(ep: EndpointData, alloc_ep_type: EndpointType, direction: Direction) -> bool
+    ensures { λ r. ⌜ r ≡ inUse ep «alloc_ep_type» direction ⌝ }
+{
+    let conf = ep.ep_conf;
+    let had = conf.ep_type;
+    let used = ep.used_rx | ep.used_tx;
+    let bulk = same_type(alloc_ep_type, EndpointType::Bulk);
+    let other = !same_type(had, alloc_ep_type);
+    (bulk & used) | (used & (other | used_dir(ep, direction)))
+}
+
+fn used_dir(ep: EndpointData, direction: Direction) -> bool
+    ensures { λ r. ⌜ r ≡ usedIn ep direction ⌝ }
+{
+    match direction {
+        Direction::Out => ep.used_rx,
+        Direction::In => ep.used_tx,
+    }
 }
 
 // The source's `is_ok`.

@@ -24,33 +24,10 @@ ghost use Rattle.event_rules.specs.Events.{arrived, collected, missing};
 ghost use Rattle.record.specs.Record.{admissionBy, passes, recordSound, areaIn};
 ghost use Rattle.host_rules.specs.Host.{answerBy, leftBy, unless, signalled, missRefusalIn, entryIn, InBuffer, arrivalRefusalIn, arrivalCall, collectionRefusalIn, packetIn, collectBy, collectionCall, busResetCall, suspendCall, resumeCall, setupEndCall, missCall, underrunCall, overrunCall};
 
-fn happen(w: &mut [u16; 46], o: Signal)
-    ensures { λ _. ⌜ now (w .exit) ≡ signalled o (now (w .entry)) ⌝ }
+pub fn bus_reset(k: Record) -> Answered
+    ensures { λ a. ⌜ a ≡ busResetCall k ⌝ }
 {
-    match o {
-        Signal::Bus(e) => {
-            events::bus(w, e);
-            return;
-        }
-        Signal::SetupEnd => {
-            events::setup_end(w);
-            return;
-        }
-    }
-}
-
-// 16 alone can refuse it.
-fn signal_if(b: Board, w: &mut [u16; 46], f: Flags, o: Signal) -> Reply
-    ensures { λ a. ⌜ (a ≡ answerBy (admissionBy false (passes b (now (w .entry)) f) false)) × (now (w .exit) ≡ leftBy (admissionBy false (passes b (now (w .entry)) f) false) (now (w .entry)) (signalled o (now (w .entry)))) ⌝ }
-{
-    let t = record_ops::admit(false, b, w, f, false);
-    match t {
-        Admission::Refused(x) => Reply::Refused(x),
-        Admission::Clear => {
-            happen(w, o);
-            Reply::Done
-        }
-    }
+    on_signal(k, Signal::Bus(BusEvent::Reset))
 }
 
 fn on_signal(k: Record, o: Signal) -> Answered
@@ -74,10 +51,33 @@ fn on_signal(k: Record, o: Signal) -> Answered
     }
 }
 
-pub fn bus_reset(k: Record) -> Answered
-    ensures { λ a. ⌜ a ≡ busResetCall k ⌝ }
+// 16 alone can refuse it.
+fn signal_if(b: Board, w: &mut [u16; 46], f: Flags, o: Signal) -> Reply
+    ensures { λ a. ⌜ (a ≡ answerBy (admissionBy false (passes b (now (w .entry)) f) false)) × (now (w .exit) ≡ leftBy (admissionBy false (passes b (now (w .entry)) f) false) (now (w .entry)) (signalled o (now (w .entry)))) ⌝ }
 {
-    on_signal(k, Signal::Bus(BusEvent::Reset))
+    let t = record_ops::admit(false, b, w, f, false);
+    match t {
+        Admission::Refused(x) => Reply::Refused(x),
+        Admission::Clear => {
+            happen(w, o);
+            Reply::Done
+        }
+    }
+}
+
+fn happen(w: &mut [u16; 46], o: Signal)
+    ensures { λ _. ⌜ now (w .exit) ≡ signalled o (now (w .entry)) ⌝ }
+{
+    match o {
+        Signal::Bus(e) => {
+            events::bus(w, e);
+            return;
+        }
+        Signal::SetupEnd => {
+            events::setup_end(w);
+            return;
+        }
+    }
 }
 
 pub fn suspend(k: Record) -> Answered
@@ -98,24 +98,10 @@ pub fn setup_end(k: Record) -> Answered
     on_signal(k, Signal::SetupEnd)
 }
 
-// Endpoint 0 has neither bit.
-fn miss_refusal(b: Board, w: &[u16; 46], f: Flags, ep: u8) -> Admission
-    ensures { λ a. ⌜ a ≡ missRefusalIn b (now (w .entry)) f ep ⌝ }
+pub fn underrun(k: Record, ep: u8) -> Answered
+    ensures { λ a. ⌜ a ≡ underrunCall k ep ⌝ }
 {
-    record_ops::admit(false, b, w, f, (ep == 0) | (record_ops::endpoints(b) <= ep))
-}
-
-fn miss_if(b: Board, w: &mut [u16; 46], f: Flags, ep: u8, d: Direction) -> Reply
-    ensures { λ a. ⌜ (a ≡ answerBy (missRefusalIn b (now (w .entry)) f ep)) × (now (w .exit) ≡ leftBy (missRefusalIn b (now (w .entry)) f ep) (now (w .entry)) (missing (now (w .entry)) ep d)) ⌝ }
-{
-    let t = miss_refusal(b, w, f, ep);
-    match t {
-        Admission::Refused(x) => Reply::Refused(x),
-        Admission::Clear => {
-            events::miss(w, ep, d);
-            Reply::Done
-        }
-    }
+    miss(k, ep, Direction::In)
 }
 
 fn miss(k: Record, ep: u8, d: Direction) -> Answered
@@ -139,10 +125,24 @@ fn miss(k: Record, ep: u8, d: Direction) -> Answered
     }
 }
 
-pub fn underrun(k: Record, ep: u8) -> Answered
-    ensures { λ a. ⌜ a ≡ underrunCall k ep ⌝ }
+fn miss_if(b: Board, w: &mut [u16; 46], f: Flags, ep: u8, d: Direction) -> Reply
+    ensures { λ a. ⌜ (a ≡ answerBy (missRefusalIn b (now (w .entry)) f ep)) × (now (w .exit) ≡ leftBy (missRefusalIn b (now (w .entry)) f ep) (now (w .entry)) (missing (now (w .entry)) ep d)) ⌝ }
 {
-    miss(k, ep, Direction::In)
+    let t = miss_refusal(b, w, f, ep);
+    match t {
+        Admission::Refused(x) => Reply::Refused(x),
+        Admission::Clear => {
+            events::miss(w, ep, d);
+            Reply::Done
+        }
+    }
+}
+
+// Endpoint 0 has neither bit.
+fn miss_refusal(b: Board, w: &[u16; 46], f: Flags, ep: u8) -> Admission
+    ensures { λ a. ⌜ a ≡ missRefusalIn b (now (w .entry)) f ep ⌝ }
+{
+    record_ops::admit(false, b, w, f, (ep == 0) | (record_ops::endpoints(b) <= ep))
 }
 
 pub fn overrun(k: Record, ep: u8) -> Answered
@@ -151,17 +151,39 @@ pub fn overrun(k: Record, ep: u8) -> Answered
     miss(k, ep, Direction::Out)
 }
 
-// The tests that come first in an event at an endpoint, where FIFO memory of so many bytes is lent: 15, 16, 8.
-fn admit(b: Board, w: &[u16; 46], f: Flags, ep: u8, memory: usize) -> Admission
-    ensures { λ a. ⌜ a ≡ entryIn b (now (w .entry)) f ep memory ⌝ }
+pub fn arrival(k: Record, ep: u8, bytes: &[u8], fifo: &mut [u8]) -> Answered
+    ensures { λ a. ⌜ record { event = a; fifo = now (fifo .exit) } ≡ arrivalCall k ep (now (bytes .entry)) (now (fifo .entry)) ⌝ }
 {
-    record_ops::admit(
-        memory < record_ops::need(b),
-        b,
-        w,
-        f,
-        record_ops::endpoints(b) <= ep,
-    )
+    let r = k.regs;
+    let e = k.endpoints;
+    let c = k.control_state;
+    let f = k.irq;
+    let b = r.board;
+    let mut w = r.words;
+    let a = arrive_if(b, &mut w, f, ep, bytes, fifo);
+    Answered {
+        answer: a,
+        record: Record {
+            regs: Regs { board: b, words: w },
+            endpoints: e,
+            control_state: c,
+            irq: f,
+        },
+    }
+}
+
+fn arrive_if(b: Board, w: &mut [u16; 46], f: Flags, ep: u8, bytes: &[u8], fifo: &mut [u8]) -> Reply
+    ensures { λ a. ⌜ (let t = arrivalRefusalIn b (now (w .entry)) f ep (length (now (bytes .entry))) (length (now (fifo .entry))) in (a ≡ answerBy t) × (now (w .exit) ≡ leftBy t (now (w .entry)) (arrived (now (w .entry)) ep (length (now (bytes .entry))))) × (now (fifo .exit) ≡ leftBy t (now (fifo .entry)) (pasted (now (fifo .entry)) (areaIn b ep Out .start) (now (bytes .entry))))) ⌝ }
+{
+    let t = arrival_refusal(b, w, f, ep, bytes.len(), fifo.len());
+    match t {
+        Admission::Refused(x) => Reply::Refused(x),
+        Admission::Clear => {
+            let s = record_ops::area(b, ep, Direction::Out);
+            events::arrive(w, ep, bytes, s, fifo);
+            Reply::Done
+        }
+    }
 }
 
 // Then 9, and 17 while one waits.
@@ -191,22 +213,22 @@ fn arrival_refusal(
     }
 }
 
-fn arrive_if(b: Board, w: &mut [u16; 46], f: Flags, ep: u8, bytes: &[u8], fifo: &mut [u8]) -> Reply
-    ensures { λ a. ⌜ (let t = arrivalRefusalIn b (now (w .entry)) f ep (length (now (bytes .entry))) (length (now (fifo .entry))) in (a ≡ answerBy t) × (now (w .exit) ≡ leftBy t (now (w .entry)) (arrived (now (w .entry)) ep (length (now (bytes .entry))))) × (now (fifo .exit) ≡ leftBy t (now (fifo .entry)) (pasted (now (fifo .entry)) (areaIn b ep Out .start) (now (bytes .entry))))) ⌝ }
+// The tests that come first in an event at an endpoint, where FIFO memory of so many bytes is lent: 15, 16, 8.
+fn admit(b: Board, w: &[u16; 46], f: Flags, ep: u8, memory: usize) -> Admission
+    ensures { λ a. ⌜ a ≡ entryIn b (now (w .entry)) f ep memory ⌝ }
 {
-    let t = arrival_refusal(b, w, f, ep, bytes.len(), fifo.len());
-    match t {
-        Admission::Refused(x) => Reply::Refused(x),
-        Admission::Clear => {
-            let s = record_ops::area(b, ep, Direction::Out);
-            events::arrive(w, ep, bytes, s, fifo);
-            Reply::Done
-        }
-    }
+    record_ops::admit(
+        memory < record_ops::need(b),
+        b,
+        w,
+        f,
+        record_ops::endpoints(b) <= ep,
+    )
 }
 
-pub fn arrival(k: Record, ep: u8, bytes: &[u8], fifo: &mut [u8]) -> Answered
-    ensures { λ a. ⌜ record { event = a; fifo = now (fifo .exit) } ≡ arrivalCall k ep (now (bytes .entry)) (now (fifo .entry)) ⌝ }
+// The buffer is lent so that the place that is given lies in it; its bytes are the caller's to read.
+pub fn collection(k: Record, ep: u8, fifo: &[u8]) -> CollectCalled
+    ensures { λ a. ⌜ (a ≡ collectionCall k ep (now (fifo .entry))) × InBuffer (a .answer) (now (fifo .entry)) ⌝ }
 {
     let r = k.regs;
     let e = k.endpoints;
@@ -214,8 +236,8 @@ pub fn arrival(k: Record, ep: u8, bytes: &[u8], fifo: &mut [u8]) -> Answered
     let f = k.irq;
     let b = r.board;
     let mut w = r.words;
-    let a = arrive_if(b, &mut w, f, ep, bytes, fifo);
-    Answered {
+    let a = collect_if(b, &mut w, f, ep, fifo.len());
+    CollectCalled {
         answer: a,
         record: Record {
             regs: Regs { board: b, words: w },
@@ -223,6 +245,16 @@ pub fn arrival(k: Record, ep: u8, bytes: &[u8], fifo: &mut [u8]) -> Answered
             control_state: c,
             irq: f,
         },
+    }
+}
+
+fn collect_if(b: Board, w: &mut [u16; 46], f: Flags, ep: u8, memory: usize) -> CollectAnswer
+    ensures { λ a. ⌜ (a ≡ collectBy (collectionRefusalIn b (now (w .entry)) f ep memory) (packetIn b (now (w .entry)) ep)) × (now (w .exit) ≡ leftBy (collectionRefusalIn b (now (w .entry)) f ep memory) (now (w .entry)) (collected (now (w .entry)) ep)) ⌝ }
+{
+    let t = collection_refusal(b, w, f, ep, memory);
+    match t {
+        Admission::Refused(x) => CollectAnswer::Refused(x),
+        Admission::Clear => collect(b, w, ep),
     }
 }
 
@@ -251,36 +283,4 @@ fn collect(b: Board, w: &mut [u16; 46], ep: u8) -> CollectAnswer
     let n = regs::waiting_len(w, ep, Direction::In);
     events::collect(w, ep);
     CollectAnswer::Done(s.start, n as usize)
-}
-
-fn collect_if(b: Board, w: &mut [u16; 46], f: Flags, ep: u8, memory: usize) -> CollectAnswer
-    ensures { λ a. ⌜ (a ≡ collectBy (collectionRefusalIn b (now (w .entry)) f ep memory) (packetIn b (now (w .entry)) ep)) × (now (w .exit) ≡ leftBy (collectionRefusalIn b (now (w .entry)) f ep memory) (now (w .entry)) (collected (now (w .entry)) ep)) ⌝ }
-{
-    let t = collection_refusal(b, w, f, ep, memory);
-    match t {
-        Admission::Refused(x) => CollectAnswer::Refused(x),
-        Admission::Clear => collect(b, w, ep),
-    }
-}
-
-// The buffer is lent so that the place that is given lies in it; its bytes are the caller's to read.
-pub fn collection(k: Record, ep: u8, fifo: &[u8]) -> CollectCalled
-    ensures { λ a. ⌜ (a ≡ collectionCall k ep (now (fifo .entry))) × InBuffer (a .answer) (now (fifo .entry)) ⌝ }
-{
-    let r = k.regs;
-    let e = k.endpoints;
-    let c = k.control_state;
-    let f = k.irq;
-    let b = r.board;
-    let mut w = r.words;
-    let a = collect_if(b, &mut w, f, ep, fifo.len());
-    CollectCalled {
-        answer: a,
-        record: Record {
-            regs: Regs { board: b, words: w },
-            endpoints: e,
-            control_state: c,
-            irq: f,
-        },
-    }
 }

@@ -9,6 +9,60 @@ ghost use lib.ListN.{length};
 ghost use Rattle.store_rules.specs.Stores.{log};
 ghost use Rattle.common_rules.specs.Overrun.{underRunCleared, overRunCleared, missedAt, missedTo, selectedBelow, repairedBelow, checkOverrun};
 
+// Most often nothing is to be repaired.
+pub fn check_overrun(w: &mut [u16; 46], list: &mut [u16], n: usize, count: u8) -> usize
+    requires { ⌜ (n * 3 + 45 ≤ length (now list)) × (count ≤ 6) ⌝ }
+    ensures { λ m. ⌜ (log (now (w .exit)) (now (list .exit)) m ≡ checkOverrun count (log (now (w .entry)) (now (list .entry)) n)) × (m ≤ n + 15) ⌝ }
+{
+    if some_missed(w) {
+        return repair_each(w, list, n, count);
+    }
+    select_each(w, list, n, count)
+}
+
+// Of any endpoint of 1 to 5. No early end: so the tests are made several at a time.
+fn some_missed(w: &[u16; 46]) -> bool
+    ensures { λ b. ⌜ b ≡ missedTo 5 (now (w .entry)) ⌝ }
+{
+    let mut any = false;
+    let mut e = 0u16;
+    while e < 5 {
+        e += 1;
+        any = any | has_missed(w, e);
+    }
+    any
+}
+
+// UnderRun or OverRun of an endpoint.
+fn has_missed(w: &[u16; 46], e: u16) -> bool
+    ensures { λ b. ⌜ b ≡ missedAt (now (w .entry)) e ⌝ }
+{
+    let tx = regs::side_at(w, e, Direction::In);
+    let rx = regs::side_at(w, e, Direction::Out);
+    tx.missed | rx.missed
+}
+
+// Each endpoint is selected, and what it missed is repaired.
+fn repair_each(w: &mut [u16; 46], list: &mut [u16], n: usize, count: u8) -> usize
+    requires { ⌜ (n * 3 + 45 ≤ length (now list)) × (count ≤ 6) ⌝ }
+    ensures { λ m. ⌜ (log (now (w .exit)) (now (list .exit)) m ≡ repairedBelow count (log (now (w .entry)) (now (list .entry)) n)) × (m ≤ n + 15) ⌝ }
+{
+    let mut m = n;
+    for index in 1..count {
+        m = stores::write_index(w, list, m, index);
+        m = repair(w, list, m);
+    }
+    m
+}
+
+fn repair(w: &mut [u16; 46], list: &mut [u16], n: usize) -> usize
+    requires { ⌜ n * 3 + 6 ≤ length (now list) ⌝ }
+    ensures { λ m. ⌜ (log (now (w .exit)) (now (list .exit)) m ≡ overRunCleared (underRunCleared (log (now (w .entry)) (now (list .entry)) n))) × (m ≤ n + 2) ⌝ }
+{
+    let a = clear_under_run(w, list, n);
+    clear_over_run(w, list, a)
+}
+
 fn clear_under_run(w: &mut [u16; 46], list: &mut [u16], n: usize) -> usize
     requires { ⌜ n * 3 + 3 ≤ length (now list) ⌝ }
     ensures { λ m. ⌜ (log (now (w .exit)) (now (list .exit)) m ≡ underRunCleared (log (now (w .entry)) (now (list .entry)) n)) × (m ≤ n + 1) ⌝ }
@@ -31,28 +85,7 @@ fn clear_over_run(w: &mut [u16; 46], list: &mut [u16], n: usize) -> usize
     n
 }
 
-fn repair(w: &mut [u16; 46], list: &mut [u16], n: usize) -> usize
-    requires { ⌜ n * 3 + 6 ≤ length (now list) ⌝ }
-    ensures { λ m. ⌜ (log (now (w .exit)) (now (list .exit)) m ≡ overRunCleared (underRunCleared (log (now (w .entry)) (now (list .entry)) n))) × (m ≤ n + 2) ⌝ }
-{
-    let a = clear_under_run(w, list, n);
-    clear_over_run(w, list, a)
-}
-
-// Each endpoint is selected, and what it missed is repaired.
-fn repair_each(w: &mut [u16; 46], list: &mut [u16], n: usize, count: u8) -> usize
-    requires { ⌜ (n * 3 + 45 ≤ length (now list)) × (count ≤ 6) ⌝ }
-    ensures { λ m. ⌜ (log (now (w .exit)) (now (list .exit)) m ≡ repairedBelow count (log (now (w .entry)) (now (list .entry)) n)) × (m ≤ n + 15) ⌝ }
-{
-    let mut m = n;
-    for index in 1..count {
-        m = stores::write_index(w, list, m, index);
-        m = repair(w, list, m);
-    }
-    m
-}
-
-// The same where nothing is to be repaired.
+// `repair_each` where nothing is to be repaired: the index stores alone.
 fn select_each(w: &mut [u16; 46], list: &mut [u16], n: usize, count: u8) -> usize
     requires { ⌜ (n * 3 + 45 ≤ length (now list)) × (count ≤ 6) ⌝ }
     ensures { λ m. ⌜ (log (now (w .exit)) (now (list .exit)) m ≡ selectedBelow count (log (now (w .entry)) (now (list .entry)) n)) × (m ≤ n + 15) ⌝ }
@@ -62,37 +95,4 @@ fn select_each(w: &mut [u16; 46], list: &mut [u16], n: usize, count: u8) -> usiz
         m = stores::write_index(w, list, m, e);
     }
     m
-}
-
-// UnderRun or OverRun of an endpoint.
-fn has_missed(w: &[u16; 46], e: u16) -> bool
-    ensures { λ b. ⌜ b ≡ missedAt (now (w .entry)) e ⌝ }
-{
-    let tx = regs::side_at(w, e, Direction::In);
-    let rx = regs::side_at(w, e, Direction::Out);
-    tx.missed | rx.missed
-}
-
-// Of any endpoint of 1 to 5. No early end: so the tests are made several at a time.
-fn some_missed(w: &[u16; 46]) -> bool
-    ensures { λ b. ⌜ b ≡ missedTo 5 (now (w .entry)) ⌝ }
-{
-    let mut any = false;
-    let mut e = 0u16;
-    while e < 5 {
-        e += 1;
-        any = any | has_missed(w, e);
-    }
-    any
-}
-
-// Most often nothing is to be repaired.
-pub fn check_overrun(w: &mut [u16; 46], list: &mut [u16], n: usize, count: u8) -> usize
-    requires { ⌜ (n * 3 + 45 ≤ length (now list)) × (count ≤ 6) ⌝ }
-    ensures { λ m. ⌜ (log (now (w .exit)) (now (list .exit)) m ≡ checkOverrun count (log (now (w .entry)) (now (list .entry)) n)) × (m ≤ n + 15) ⌝ }
-{
-    if some_missed(w) {
-        return repair_each(w, list, n, count);
-    }
-    select_each(w, list, n, count)
 }

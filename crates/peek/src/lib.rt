@@ -11,12 +11,6 @@ ghost use lib.ListN.{length};
 ghost use Rattle.store_rules.specs.Stores.{log};
 ghost use Rattle.transfer_rules.specs.Peek.{shortIn, firstTests, afterOf, blocked, ended};
 
-fn is_short(b: Board, fifo: usize, list: usize) -> bool
-    ensures { λ s. ⌜ s ≡ shortIn b fifo list ⌝ }
-{
-    (fifo < record_ops::need(b)) | (list < record_ops::LIST)
-}
-
 // The tests that come first in both: 15, 16, 8.
 pub fn admit(b: Board, w: &[u16; 46], f: Flags, ep: u8, fifo: usize, list: usize) -> Admission
     ensures { λ a. ⌜ a ≡ firstTests b (now (w .entry)) f ep fifo list ⌝ }
@@ -28,6 +22,12 @@ pub fn admit(b: Board, w: &[u16; 46], f: Flags, ep: u8, fifo: usize, list: usize
         f,
         record_ops::endpoints(b) <= ep,
     )
+}
+
+fn is_short(b: Board, fifo: usize, list: usize) -> bool
+    ensures { λ s. ⌜ s ≡ shortIn b fifo list ⌝ }
+{
+    (fifo < record_ops::need(b)) | (list < record_ops::LIST)
 }
 
 // Reply 6: the endpoint is selected.

@@ -17,6 +17,23 @@ pub fn without(w: u16, i: u8) -> u16
     w & !(1u16 << i)
 }
 
+// The source's `for index in BitIter(rx_flags)`.
+pub fn walk(flags: u16, w: &mut [u16; 46], list: &mut [u16], n: usize) -> Walked
+    requires { ⌜ (flags < 64) × (n * 3 + 18 ≤ length (now list)) ⌝ }
+    ensures { λ o. ⌜ walkOf o (now (w .exit)) (now (list .exit)) ≡ walked flags (log (now (w .entry)) (now (list .entry)) n) ⌝ }
+{
+    let mut rest = flags;
+    let mut m = n;
+    let mut out = flags;
+    while rest != 0 {
+        let e = lowest(rest);
+        rest = without(rest, e);
+        m = stores::write_index(w, list, m, e);
+        out = drain(flags, out, e, regs::waits(w, e, Direction::Out));
+    }
+    Walked { n: m, out: out }
+}
+
 // The lowest set bit.
 fn lowest(w: u16) -> u8
     requires { ⌜ (0 < w) × (w < 64) ⌝ }
@@ -33,21 +50,4 @@ fn drain(flags: u16, out: u16, e: u8, ready: bool) -> u16
         return out;
     }
     without(flags, e)
-}
-
-// The source's `for index in BitIter(rx_flags)`.
-pub fn walk(flags: u16, w: &mut [u16; 46], list: &mut [u16], n: usize) -> Walked
-    requires { ⌜ (flags < 64) × (n * 3 + 18 ≤ length (now list)) ⌝ }
-    ensures { λ o. ⌜ walkOf o (now (w .exit)) (now (list .exit)) ≡ walked flags (log (now (w .entry)) (now (list .entry)) n) ⌝ }
-{
-    let mut rest = flags;
-    let mut m = n;
-    let mut out = flags;
-    while rest != 0 {
-        let e = lowest(rest);
-        rest = without(rest, e);
-        m = stores::write_index(w, list, m, e);
-        out = drain(flags, out, e, regs::waits(w, e, Direction::Out));
-    }
-    Walked { n: m, out: out }
 }

@@ -11,57 +11,6 @@ ghost use Rattle.trace_rules.specs.Entries.{codeOf, Within};
 ghost use Rattle.calls.specs.Calls as calls;
 ghost use Rattle.report_rules.specs.Act.{state, busOperation, did, acted, Acts, Lent};
 
-// The longest buffer that an entry can ask a read for.
-fn zeros() -> [u8; 512]
-    ensures { λ r. ⌜ r ≡ replicate 512 0 ⌝ }
-{
-    [0; 512]
-}
-
-fn fetch(
-    k: Record,
-    ep: u8,
-    fifo: &[u8],
-    list: &mut [u16],
-    buf: &mut [u8],
-    line: &mut [u8],
-    code: u8,
-) -> Acted
-    requires { ⌜ (length (now buf) ≤ 512) × (length (now fifo) ≤ 2000) × (8192 ≤ length (now line)) ⌝ }
-    ensures { λ r. ⌜ Acts (now (line .entry)) (now (line .exit)) r (now (fifo .entry)) (now (list .exit)) code (did (state k (now (fifo .entry)) (now (list .entry))) (calls.read ep (now (buf .entry)) (now (fifo .entry)) (now (list .entry)))) ⌝ }
-{
-    let o = usb_device_read::read(k, ep, buf, fifo, list);
-    trace_answers::fetched(line, code, o, buf)
-}
-
-// A read is lent the first bytes of a buffer of its own.
-fn read(
-    k: Record,
-    ep: u8,
-    n: u16,
-    fifo: &[u8],
-    list: &mut [u16],
-    line: &mut [u8],
-    code: u8,
-) -> Acted
-    requires { ⌜ (n ≤ 512) × (length (now fifo) ≤ 2000) × (8192 ≤ length (now line)) ⌝ }
-    ensures { λ r. ⌜ Acts (now (line .entry)) (now (line .exit)) r (now (fifo .entry)) (now (list .exit)) code (did (state k (now (fifo .entry)) (now (list .entry))) (calls.read ep (replicate n 0) (now (fifo .entry)) (now (list .entry)))) ⌝ }
-{
-    let mut buf = zeros();
-    let m = n as usize;
-    fetch(k, ep, fifo, list, &mut buf[..m], line, code)
-}
-
-fn bus(k: Record, b: BusEvent) -> Answered
-    ensures { λ r. ⌜ calls.answered r ≡ calls.outcome k (busOperation b) ⌝ }
-{
-    match b {
-        BusEvent::Reset => host::bus_reset(k),
-        BusEvent::Suspend => host::suspend(k),
-        BusEvent::Resume => host::resume(k),
-    }
-}
-
 // A packet is handed on as a part of the trace.
 pub fn act(
     trace: &[u8],
@@ -128,5 +77,56 @@ pub fn act(
         Entry::SetupEnd => trace_answers::answered(line, code, host::setup_end(k)),
         Entry::Underrun(ep) => trace_answers::answered(line, code, host::underrun(k, ep)),
         Entry::Overrun(ep) => trace_answers::answered(line, code, host::overrun(k, ep)),
+    }
+}
+
+// A read is lent the first bytes of a buffer of its own.
+fn read(
+    k: Record,
+    ep: u8,
+    n: u16,
+    fifo: &[u8],
+    list: &mut [u16],
+    line: &mut [u8],
+    code: u8,
+) -> Acted
+    requires { ⌜ (n ≤ 512) × (length (now fifo) ≤ 2000) × (8192 ≤ length (now line)) ⌝ }
+    ensures { λ r. ⌜ Acts (now (line .entry)) (now (line .exit)) r (now (fifo .entry)) (now (list .exit)) code (did (state k (now (fifo .entry)) (now (list .entry))) (calls.read ep (replicate n 0) (now (fifo .entry)) (now (list .entry)))) ⌝ }
+{
+    let mut buf = zeros();
+    let m = n as usize;
+    fetch(k, ep, fifo, list, &mut buf[..m], line, code)
+}
+
+// The longest buffer that an entry can ask a read for.
+fn zeros() -> [u8; 512]
+    ensures { λ r. ⌜ r ≡ replicate 512 0 ⌝ }
+{
+    [0; 512]
+}
+
+fn fetch(
+    k: Record,
+    ep: u8,
+    fifo: &[u8],
+    list: &mut [u16],
+    buf: &mut [u8],
+    line: &mut [u8],
+    code: u8,
+) -> Acted
+    requires { ⌜ (length (now buf) ≤ 512) × (length (now fifo) ≤ 2000) × (8192 ≤ length (now line)) ⌝ }
+    ensures { λ r. ⌜ Acts (now (line .entry)) (now (line .exit)) r (now (fifo .entry)) (now (list .exit)) code (did (state k (now (fifo .entry)) (now (list .entry))) (calls.read ep (now (buf .entry)) (now (fifo .entry)) (now (list .entry)))) ⌝ }
+{
+    let o = usb_device_read::read(k, ep, buf, fifo, list);
+    trace_answers::fetched(line, code, o, buf)
+}
+
+fn bus(k: Record, b: BusEvent) -> Answered
+    ensures { λ r. ⌜ calls.answered r ≡ calls.outcome k (busOperation b) ⌝ }
+{
+    match b {
+        BusEvent::Reset => host::bus_reset(k),
+        BusEvent::Suspend => host::suspend(k),
+        BusEvent::Resume => host::resume(k),
     }
 }

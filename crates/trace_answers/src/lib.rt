@@ -32,20 +32,18 @@ ghost use Rattle.round_rules.specs.Poll.{pollNumber, pollValues, resultValues};
 ghost use Rattle.host_rules.specs.Host.{collectNumber, collectValues, InBuffer};
 ghost use Rattle.report_rules.specs.Shown.{Shows, Gives, writeFits, readFits};
 
-fn as_number(b: bool) -> u32
-    ensures { λ r. ⌜ r ≡ cond b 1 0 ⌝ }
-{
-    if b {
-        return 1;
-    }
-    0
-}
-
-fn show_refusal(line: &mut [u8], code: u8, x: Refusal) -> usize
+pub fn called(line: &mut [u8], code: u8, o: Called) -> Acted
     requires { ⌜ 100 ≤ length (now line) ⌝ }
-    ensures { λ r. ⌜ Shows (now (line .entry)) (now (line .exit)) r code (refusalNumber x) [] ⌝ }
+    ensures { λ r. ⌜ Gives (now (line .entry)) (now (line .exit)) r code (o .«record») (o .stores) (replyNumber (o .answer)) [] ⌝ }
 {
-    trace_report::reply_line(line, code, record_ops::refusal_number(x))
+    let a = o.answer;
+    let k = o.record;
+    let len = show_reply(line, code, a);
+    Acted {
+        record: k,
+        stores: o.stores,
+        len,
+    }
 }
 
 fn show_reply(line: &mut [u8], code: u8, a: Reply) -> usize
@@ -53,6 +51,20 @@ fn show_reply(line: &mut [u8], code: u8, a: Reply) -> usize
     ensures { λ r. ⌜ Shows (now (line .entry)) (now (line .exit)) r code (replyNumber a) [] ⌝ }
 {
     trace_report::reply_line(line, code, record_ops::reply_number(a))
+}
+
+pub fn allocated(line: &mut [u8], code: u8, o: AllocCalled) -> Acted
+    requires { ⌜ 100 ≤ length (now line) ⌝ }
+    ensures { λ r. ⌜ Gives (now (line .entry)) (now (line .exit)) r code (o .«record») 0 (allocNumber (o .answer)) (allocValues (o .answer)) ⌝ }
+{
+    let a = o.answer;
+    let k = o.record;
+    let len = show_alloc(line, code, a);
+    Acted {
+        record: k,
+        stores: 0,
+        len,
+    }
 }
 
 // "the endpoint"
@@ -71,6 +83,27 @@ fn show_alloc(line: &mut [u8], code: u8, a: AllocAnswer) -> usize
     }
 }
 
+fn show_refusal(line: &mut [u8], code: u8, x: Refusal) -> usize
+    requires { ⌜ 100 ≤ length (now line) ⌝ }
+    ensures { λ r. ⌜ Shows (now (line .entry)) (now (line .exit)) r code (refusalNumber x) [] ⌝ }
+{
+    trace_report::reply_line(line, code, record_ops::refusal_number(x))
+}
+
+pub fn told(line: &mut [u8], code: u8, o: StalledCalled) -> Acted
+    requires { ⌜ 100 ≤ length (now line) ⌝ }
+    ensures { λ r. ⌜ Gives (now (line .entry)) (now (line .exit)) r code (o .«record») (o .stores) (stalledNumber (o .answer)) (stalledValues (o .answer)) ⌝ }
+{
+    let a = o.answer;
+    let k = o.record;
+    let len = show_stalled(line, code, a);
+    Acted {
+        record: k,
+        stores: o.stores,
+        len,
+    }
+}
+
 // "0 or 1"
 fn show_stalled(line: &mut [u8], code: u8, a: StalledAnswer) -> usize
     requires { ⌜ 100 ≤ length (now line) ⌝ }
@@ -79,6 +112,29 @@ fn show_stalled(line: &mut [u8], code: u8, a: StalledAnswer) -> usize
     match a {
         StalledAnswer::Done(b) => trace_report::value_line(line, code, 0, as_number(b)),
         StalledAnswer::Refused(x) => show_refusal(line, code, x),
+    }
+}
+
+fn as_number(b: bool) -> u32
+    ensures { λ r. ⌜ r ≡ cond b 1 0 ⌝ }
+{
+    if b {
+        return 1;
+    }
+    0
+}
+
+pub fn written(line: &mut [u8], code: u8, o: WriteCalled) -> Acted
+    requires { ⌜ (100 ≤ length (now line)) × writeFits (o .answer) ⌝ }
+    ensures { λ r. ⌜ Gives (now (line .entry)) (now (line .exit)) r code (o .«record») (o .stores) (writeNumber (o .answer)) (writeValues (o .answer)) ⌝ }
+{
+    let a = o.answer;
+    let k = o.record;
+    let len = show_write(line, code, a);
+    Acted {
+        record: k,
+        stores: o.stores,
+        len,
     }
 }
 
@@ -93,12 +149,18 @@ fn show_write(line: &mut [u8], code: u8, a: WriteAnswer) -> usize
     }
 }
 
-fn show_stored(line: &mut [u8], code: u8, n: usize, buf: &[u8]) -> usize
-    requires { ⌜ (100 + 4 * length (now buf) ≤ length (now line)) × (n < 2 ^ 32) ⌝ }
-    ensures { λ r. ⌜ Shows (now (line .entry)) (now (line .exit)) r code 0 (n ∷ take (min n (length (now (buf .entry)))) (now (buf .entry))) ⌝ }
+pub fn fetched(line: &mut [u8], code: u8, o: ReadCalled, buf: &[u8]) -> Acted
+    requires { ⌜ (100 + 4 * length (now buf) ≤ length (now line)) × readFits (o .answer) ⌝ }
+    ensures { λ r. ⌜ Gives (now (line .entry)) (now (line .exit)) r code (o .«record») (o .stores) (readNumber (o .answer)) (readValues (o .answer) (now (buf .entry))) ⌝ }
 {
-    let m = trace_text::least(n, buf.len());
-    trace_report::counted_line(line, code, 0, n as u32, &buf[..m])
+    let a = o.answer;
+    let k = o.record;
+    let len = show_read(line, code, a, buf);
+    Acted {
+        record: k,
+        stores: o.stores,
+        len,
+    }
 }
 
 // "for reads the count then stored bytes", which stand at the front of the read's buffer
@@ -109,6 +171,38 @@ fn show_read(line: &mut [u8], code: u8, a: ReadAnswer, buf: &[u8]) -> usize
     match a {
         ReadAnswer::Done(n) => show_stored(line, code, n, buf),
         ReadAnswer::Refused(x) => show_refusal(line, code, x),
+    }
+}
+
+fn show_stored(line: &mut [u8], code: u8, n: usize, buf: &[u8]) -> usize
+    requires { ⌜ (100 + 4 * length (now buf) ≤ length (now line)) × (n < 2 ^ 32) ⌝ }
+    ensures { λ r. ⌜ Shows (now (line .entry)) (now (line .exit)) r code 0 (n ∷ take (min n (length (now (buf .entry)))) (now (buf .entry))) ⌝ }
+{
+    let m = trace_text::least(n, buf.len());
+    trace_report::counted_line(line, code, 0, n as u32, &buf[..m])
+}
+
+pub fn polled(line: &mut [u8], code: u8, o: PollCalled) -> Acted
+    requires { ⌜ 100 ≤ length (now line) ⌝ }
+    ensures { λ r. ⌜ Gives (now (line .entry)) (now (line .exit)) r code (o .«record») (o .stores) (pollNumber (o .answer)) (pollValues (o .answer)) ⌝ }
+{
+    let a = o.answer;
+    let k = o.record;
+    let len = show_poll(line, code, a);
+    Acted {
+        record: k,
+        stores: o.stores,
+        len,
+    }
+}
+
+fn show_poll(line: &mut [u8], code: u8, a: PollAnswer) -> usize
+    requires { ⌜ 100 ≤ length (now line) ⌝ }
+    ensures { λ r. ⌜ Shows (now (line .entry)) (now (line .exit)) r code (pollNumber a) (pollValues a) ⌝ }
+{
+    match a {
+        PollAnswer::Done(p) => show_result(line, code, p),
+        PollAnswer::Refused(x) => show_refusal(line, code, x),
     }
 }
 
@@ -131,119 +225,6 @@ fn show_result(line: &mut [u8], code: u8, a: PollResult) -> usize
         PollResult::Reset => trace_report::value_line(line, code, 0, 2),
         PollResult::Resume => trace_report::value_line(line, code, 0, 3),
         PollResult::Suspend => trace_report::value_line(line, code, 0, 4),
-    }
-}
-
-fn show_poll(line: &mut [u8], code: u8, a: PollAnswer) -> usize
-    requires { ⌜ 100 ≤ length (now line) ⌝ }
-    ensures { λ r. ⌜ Shows (now (line .entry)) (now (line .exit)) r code (pollNumber a) (pollValues a) ⌝ }
-{
-    match a {
-        PollAnswer::Done(p) => show_result(line, code, p),
-        PollAnswer::Refused(x) => show_refusal(line, code, x),
-    }
-}
-
-fn show_part(line: &mut [u8], code: u8, start: usize, len: usize, fifo: &[u8]) -> usize
-    requires { ⌜ (100 + 4 * length (now fifo) ≤ length (now line)) × (start + len ≤ length (now fifo)) ⌝ }
-    ensures { λ r. ⌜ Shows (now (line .entry)) (now (line .exit)) r code 0 (take len (drop start (now (fifo .entry)))) ⌝ }
-{
-    let end = start + len;
-    trace_report::bytes_line(line, code, 0, &fifo[start..end])
-}
-
-// "for collect the bytes", at the place that the collection gave
-fn show_collect(line: &mut [u8], code: u8, a: CollectAnswer, fifo: &[u8]) -> usize
-    requires { ⌜ (100 + 4 * length (now fifo) ≤ length (now line)) × InBuffer a (now fifo) ⌝ }
-    ensures { λ r. ⌜ Shows (now (line .entry)) (now (line .exit)) r code (collectNumber a) (collectValues a (now (fifo .entry))) ⌝ }
-{
-    match a {
-        CollectAnswer::Done(start, len) => show_part(line, code, start, len, fifo),
-        CollectAnswer::Refused(x) => show_refusal(line, code, x),
-    }
-}
-
-pub fn called(line: &mut [u8], code: u8, o: Called) -> Acted
-    requires { ⌜ 100 ≤ length (now line) ⌝ }
-    ensures { λ r. ⌜ Gives (now (line .entry)) (now (line .exit)) r code (o .«record») (o .stores) (replyNumber (o .answer)) [] ⌝ }
-{
-    let a = o.answer;
-    let k = o.record;
-    let len = show_reply(line, code, a);
-    Acted {
-        record: k,
-        stores: o.stores,
-        len,
-    }
-}
-
-pub fn allocated(line: &mut [u8], code: u8, o: AllocCalled) -> Acted
-    requires { ⌜ 100 ≤ length (now line) ⌝ }
-    ensures { λ r. ⌜ Gives (now (line .entry)) (now (line .exit)) r code (o .«record») 0 (allocNumber (o .answer)) (allocValues (o .answer)) ⌝ }
-{
-    let a = o.answer;
-    let k = o.record;
-    let len = show_alloc(line, code, a);
-    Acted {
-        record: k,
-        stores: 0,
-        len,
-    }
-}
-
-pub fn told(line: &mut [u8], code: u8, o: StalledCalled) -> Acted
-    requires { ⌜ 100 ≤ length (now line) ⌝ }
-    ensures { λ r. ⌜ Gives (now (line .entry)) (now (line .exit)) r code (o .«record») (o .stores) (stalledNumber (o .answer)) (stalledValues (o .answer)) ⌝ }
-{
-    let a = o.answer;
-    let k = o.record;
-    let len = show_stalled(line, code, a);
-    Acted {
-        record: k,
-        stores: o.stores,
-        len,
-    }
-}
-
-pub fn written(line: &mut [u8], code: u8, o: WriteCalled) -> Acted
-    requires { ⌜ (100 ≤ length (now line)) × writeFits (o .answer) ⌝ }
-    ensures { λ r. ⌜ Gives (now (line .entry)) (now (line .exit)) r code (o .«record») (o .stores) (writeNumber (o .answer)) (writeValues (o .answer)) ⌝ }
-{
-    let a = o.answer;
-    let k = o.record;
-    let len = show_write(line, code, a);
-    Acted {
-        record: k,
-        stores: o.stores,
-        len,
-    }
-}
-
-pub fn fetched(line: &mut [u8], code: u8, o: ReadCalled, buf: &[u8]) -> Acted
-    requires { ⌜ (100 + 4 * length (now buf) ≤ length (now line)) × readFits (o .answer) ⌝ }
-    ensures { λ r. ⌜ Gives (now (line .entry)) (now (line .exit)) r code (o .«record») (o .stores) (readNumber (o .answer)) (readValues (o .answer) (now (buf .entry))) ⌝ }
-{
-    let a = o.answer;
-    let k = o.record;
-    let len = show_read(line, code, a, buf);
-    Acted {
-        record: k,
-        stores: o.stores,
-        len,
-    }
-}
-
-pub fn polled(line: &mut [u8], code: u8, o: PollCalled) -> Acted
-    requires { ⌜ 100 ≤ length (now line) ⌝ }
-    ensures { λ r. ⌜ Gives (now (line .entry)) (now (line .exit)) r code (o .«record») (o .stores) (pollNumber (o .answer)) (pollValues (o .answer)) ⌝ }
-{
-    let a = o.answer;
-    let k = o.record;
-    let len = show_poll(line, code, a);
-    Acted {
-        record: k,
-        stores: o.stores,
-        len,
     }
 }
 
@@ -273,4 +254,23 @@ pub fn collected(line: &mut [u8], code: u8, o: CollectCalled, fifo: &[u8]) -> Ac
         stores: 0,
         len,
     }
+}
+
+// "for collect the bytes", at the place that the collection gave
+fn show_collect(line: &mut [u8], code: u8, a: CollectAnswer, fifo: &[u8]) -> usize
+    requires { ⌜ (100 + 4 * length (now fifo) ≤ length (now line)) × InBuffer a (now fifo) ⌝ }
+    ensures { λ r. ⌜ Shows (now (line .entry)) (now (line .exit)) r code (collectNumber a) (collectValues a (now (fifo .entry))) ⌝ }
+{
+    match a {
+        CollectAnswer::Done(start, len) => show_part(line, code, start, len, fifo),
+        CollectAnswer::Refused(x) => show_refusal(line, code, x),
+    }
+}
+
+fn show_part(line: &mut [u8], code: u8, start: usize, len: usize, fifo: &[u8]) -> usize
+    requires { ⌜ (100 + 4 * length (now fifo) ≤ length (now line)) × (start + len ≤ length (now fifo)) ⌝ }
+    ensures { λ r. ⌜ Shows (now (line .entry)) (now (line .exit)) r code 0 (take len (drop start (now (fifo .entry)))) ⌝ }
+{
+    let end = start + len;
+    trace_report::bytes_line(line, code, 0, &fifo[start..end])
 }

@@ -14,6 +14,12 @@ ghost use Rattle.endpoints.specs.Endpoints.{typeOf};
 ghost use Rattle.trace_rules.specs.Arguments.{inRange, argAt, twoAt, directionOf, wantedOf, busOf, flagOf};
 ghost use Rattle.trace_rules.specs.Packets.{heldIn, packetAt};
 
+pub fn arg_at(s: &[u8], at: usize, most: u16) -> Arg
+    ensures { λ r. ⌜ r ≡ argAt (now (s .entry)) at most ⌝ }
+{
+    in_range(trace_reader::number_from(s, at), most)
+}
+
 fn in_range(n: Number, most: u16) -> Arg
     ensures { λ r. ⌜ r ≡ inRange most n ⌝ }
 {
@@ -27,12 +33,6 @@ fn in_range(n: Number, most: u16) -> Arg
         }
         Number::Bad => Arg::No,
     }
-}
-
-pub fn arg_at(s: &[u8], at: usize, most: u16) -> Arg
-    ensures { λ r. ⌜ r ≡ argAt (now (s .entry)) at most ⌝ }
-{
-    in_range(trace_reader::number_from(s, at), most)
 }
 
 // One reader goes from the first number to the second.
@@ -105,6 +105,16 @@ pub fn bus_of(n: u16) -> BusEvent
     }
 }
 
+// Endpoint, length, bytes. Form comes before meaning: a packet that is cut is bad whatever its endpoint.
+pub fn packet_at(s: &[u8], at: usize) -> Held
+    ensures { λ r. ⌜ r ≡ packetAt (now (s .entry)) at ⌝ }
+{
+    match two_at(s, at, 255, 65535) {
+        Two::Both(e, n, start) => held_in(s, narrow(e), n as usize, start),
+        Two::Neither => Held::Cut,
+    }
+}
+
 // A packet of n bytes from start on.
 fn held_in(s: &[u8], e: u8, n: usize, start: usize) -> Held
     requires { ⌜ start ≤ length (now s) ⌝ }
@@ -114,14 +124,4 @@ fn held_in(s: &[u8], e: u8, n: usize, start: usize) -> Held
         return Held::Cut;
     }
     Held::Bytes(e, start, n, start + n)
-}
-
-// Endpoint, length, bytes. Form comes before meaning: a packet that is cut is bad whatever its endpoint.
-pub fn packet_at(s: &[u8], at: usize) -> Held
-    ensures { λ r. ⌜ r ≡ packetAt (now (s .entry)) at ⌝ }
-{
-    match two_at(s, at, 255, 65535) {
-        Two::Both(e, n, start) => held_in(s, narrow(e), n as usize, start),
-        Two::Neither => Held::Cut,
-    }
 }

@@ -14,17 +14,14 @@ ghost use Rattle.trace_rules.specs.Text.{Wrote, fields};
 ghost use Rattle.detail_rules.specs.DetailLines.{store, stores, storesLine, recordLine};
 ghost use Rattle.detail_rules.specs.DetailNumbers.{ofChip, shownAt, lengthsAt, ofData, ofEndpoint, ofEndpoints, ofFlags};
 
-// A store, `register,endpoint,value`, with a blank before it.
-fn put_store(out: &mut [u8], at: usize, register: u16, endpoint: u16, value: u16) -> usize
-    requires { ⌜ at + 33 ≤ length (now out) ⌝ }
-    ensures { λ r. ⌜ Wrote (now (out .entry)) (now (out .exit)) at r (store register endpoint value) ⌝ }
-    ensures { λ r. ⌜ r ≤ at + 18 ⌝ }
+pub fn stores_line(out: &mut [u8], list: &[u16], n: usize) -> usize
+    requires { ⌜ (3 * n ≤ length (now list)) × (100 + 18 * n ≤ length (now out)) ⌝ }
+    ensures { λ r. ⌜ Wrote (now (out .entry)) (now (out .exit)) 0 r (storesLine (now (list .entry)) n) ⌝ }
+    ensures { λ r. ⌜ r ≤ 100 + 18 * n ⌝ }
 {
-    let a = trace_text::put_field(out, at, wide_word(register));
-    let b = trace_text::put_text(out, a, b",");
-    let c = trace_text::put_decimal(out, b, wide_word(endpoint));
-    let d = trace_text::put_text(out, c, b",");
-    trace_text::put_decimal(out, d, wide_word(value))
+    let a = trace_text::put_text(out, 0, b"  stores");
+    let b = put_stores(out, a, list, n);
+    trace_text::put_text(out, b, b"\n")
 }
 
 // The first n stores of a list, three numbers a store.
@@ -42,14 +39,35 @@ fn put_stores(out: &mut [u8], at: usize, list: &[u16], n: usize) -> usize
     m
 }
 
-pub fn stores_line(out: &mut [u8], list: &[u16], n: usize) -> usize
-    requires { ⌜ (3 * n ≤ length (now list)) × (100 + 18 * n ≤ length (now out)) ⌝ }
-    ensures { λ r. ⌜ Wrote (now (out .entry)) (now (out .exit)) 0 r (storesLine (now (list .entry)) n) ⌝ }
-    ensures { λ r. ⌜ r ≤ 100 + 18 * n ⌝ }
+// A store, `register,endpoint,value`, with a blank before it.
+fn put_store(out: &mut [u8], at: usize, register: u16, endpoint: u16, value: u16) -> usize
+    requires { ⌜ at + 33 ≤ length (now out) ⌝ }
+    ensures { λ r. ⌜ Wrote (now (out .entry)) (now (out .exit)) at r (store register endpoint value) ⌝ }
+    ensures { λ r. ⌜ r ≤ at + 18 ⌝ }
 {
-    let a = trace_text::put_text(out, 0, b"  stores");
-    let b = put_stores(out, a, list, n);
-    trace_text::put_text(out, b, b"\n")
+    let a = trace_text::put_field(out, at, wide_word(register));
+    let b = trace_text::put_text(out, a, b",");
+    let c = trace_text::put_decimal(out, b, wide_word(endpoint));
+    let d = trace_text::put_text(out, c, b",");
+    trace_text::put_decimal(out, d, wide_word(value))
+}
+
+// The record's 96 numbers.
+pub fn record_line(out: &mut [u8], k: Record) -> usize
+    requires { ⌜ 1100 ≤ length (now out) ⌝ }
+    ensures { λ r. ⌜ Wrote (now (out .entry)) (now (out .exit)) 0 r (recordLine k) ⌝ }
+    ensures { λ r. ⌜ r ≤ 1100 ⌝ }
+{
+    let r = k.regs;
+    let w = r.words;
+    let endpoints = k.endpoints;
+    let a = trace_text::put_text(out, 0, b"  record");
+    let chip = of_chip(&w);
+    let b = put_numbers(out, a, &chip);
+    let c = put_endpoints(out, b, &w, endpoints);
+    let flags = of_flags(k.control_state, k.irq);
+    let d = put_numbers(out, c, &flags);
+    trace_text::put_text(out, d, b"\n")
 }
 
 // The registers of the chip as a whole, and endpoint 0's own.
@@ -68,6 +86,47 @@ fn of_chip(w: &[u16; 46]) -> [u32; 10]
         wide_word(w[regs::INTRRX]),
         wide_word(csr_ops::csr0l_number(regs::read_csr0l(w))),
     ]
+}
+
+// Each number of s as a field.
+fn put_numbers(out: &mut [u8], at: usize, s: &[u32]) -> usize
+    requires { ⌜ at + 11 * length (now s) ≤ length (now out) ⌝ }
+    ensures { λ r. ⌜ Wrote (now (out .entry)) (now (out .exit)) at r (fields (now (s .entry))) ⌝ }
+    ensures { λ r. ⌜ r ≤ at + 11 * length (now (s .entry)) ⌝ }
+{
+    let mut i = 0usize;
+    let mut m = at;
+    while i < s.len() {
+        m = trace_text::put_field(out, m, s[i]);
+        i += 1;
+    }
+    m
+}
+
+fn put_endpoints(out: &mut [u8], at: usize, w: &[u16; 46], endpoints: [EndpointData; 6]) -> usize
+    requires { ⌜ at + 858 ≤ length (now out) ⌝ }
+    ensures { λ n. ⌜ Wrote (now (out .entry)) (now (out .exit)) at n (fields (ofEndpoints (now (w .entry)) endpoints 6)) ⌝ }
+    ensures { λ n. ⌜ n ≤ at + 858 ⌝ }
+{
+    let mut i = 0usize;
+    let mut m = at;
+    while i < 6 {
+        m = put_endpoint(out, m, w, endpoints[i], i as u16);
+        i += 1;
+    }
+    m
+}
+
+// An endpoint's thirteen numbers.
+fn put_endpoint(out: &mut [u8], at: usize, w: &[u16; 46], d: EndpointData, e: u16) -> usize
+    requires { ⌜ at + 143 ≤ length (now out) ⌝ }
+    ensures { λ n. ⌜ Wrote (now (out .entry)) (now (out .exit)) at n (fields (ofEndpoint (now (w .entry)) d e)) ⌝ }
+    ensures { λ n. ⌜ n ≤ at + 143 ⌝ }
+{
+    let registers = shown_at(w, e);
+    let a = put_numbers(out, at, &registers);
+    let rest = rest_at(w, e, d);
+    put_numbers(out, a, &rest)
 }
 
 // An endpoint's own registers, as they read with it selected. Endpoint 0 has none of them: its bits stand in CSR0L.
@@ -123,63 +182,4 @@ fn of_flags(c: ControlState, f: Flags) -> [u32; 8]
         wide_word(f.ep_tx),
         wide_word(f.ep_rx),
     ]
-}
-
-// Each number of s as a field.
-fn put_numbers(out: &mut [u8], at: usize, s: &[u32]) -> usize
-    requires { ⌜ at + 11 * length (now s) ≤ length (now out) ⌝ }
-    ensures { λ r. ⌜ Wrote (now (out .entry)) (now (out .exit)) at r (fields (now (s .entry))) ⌝ }
-    ensures { λ r. ⌜ r ≤ at + 11 * length (now (s .entry)) ⌝ }
-{
-    let mut i = 0usize;
-    let mut m = at;
-    while i < s.len() {
-        m = trace_text::put_field(out, m, s[i]);
-        i += 1;
-    }
-    m
-}
-
-// An endpoint's thirteen numbers.
-fn put_endpoint(out: &mut [u8], at: usize, w: &[u16; 46], d: EndpointData, e: u16) -> usize
-    requires { ⌜ at + 143 ≤ length (now out) ⌝ }
-    ensures { λ n. ⌜ Wrote (now (out .entry)) (now (out .exit)) at n (fields (ofEndpoint (now (w .entry)) d e)) ⌝ }
-    ensures { λ n. ⌜ n ≤ at + 143 ⌝ }
-{
-    let registers = shown_at(w, e);
-    let a = put_numbers(out, at, &registers);
-    let rest = rest_at(w, e, d);
-    put_numbers(out, a, &rest)
-}
-
-fn put_endpoints(out: &mut [u8], at: usize, w: &[u16; 46], endpoints: [EndpointData; 6]) -> usize
-    requires { ⌜ at + 858 ≤ length (now out) ⌝ }
-    ensures { λ n. ⌜ Wrote (now (out .entry)) (now (out .exit)) at n (fields (ofEndpoints (now (w .entry)) endpoints 6)) ⌝ }
-    ensures { λ n. ⌜ n ≤ at + 858 ⌝ }
-{
-    let mut i = 0usize;
-    let mut m = at;
-    while i < 6 {
-        m = put_endpoint(out, m, w, endpoints[i], i as u16);
-        i += 1;
-    }
-    m
-}
-
-// The record's 96 numbers.
-pub fn record_line(out: &mut [u8], k: Record) -> usize
-    requires { ⌜ 1100 ≤ length (now out) ⌝ }
-    ensures { λ r. ⌜ Wrote (now (out .entry)) (now (out .exit)) 0 r (recordLine k) ⌝ }
-    ensures { λ r. ⌜ r ≤ 1100 ⌝ }
-{
-    let r = k.regs;
-    let w = r.words;
-    let endpoints = k.endpoints;
-    let a = trace_text::put_text(out, 0, b"  record");
-    let chip = of_chip(&w);
-    let b = put_numbers(out, a, &chip);
-    let c = put_endpoints(out, b, &w, endpoints);
-    let flags = of_flags(k.control_state, k.irq);
-    let d = put_numbers(out, c, &flags);
-    trace_text::put_text(out, d, b"\n")
 }

@@ -9,6 +9,45 @@ use trace_rules::Two;
 ghost use mathlib.Core.Path.{_≡_};
 ghost use Rattle.trace_rules.specs.Entries.{allocateAt, oneAt, oneOf, writeAt, readAt, stallAt, isStalledAt, arrivalAt, busAt, codeAt, entryAt, codeOf};
 
+// What stands at a place of a trace.
+pub fn entry_at(trace: &[u8], at: usize) -> Parsed
+    ensures { λ r. ⌜ r ≡ entryAt (now (trace .entry)) at ⌝ }
+{
+    if trace.len() <= at {
+        return Parsed::End;
+    }
+    match trace_reader::number_from(trace, at) {
+        Number::Value(code, past) => code_at(trace, code, past),
+        Number::Bad => Parsed::Bad,
+    }
+}
+
+// The entry with this code whose arguments begin at a place.
+fn code_at(s: &[u8], code: u16, at: usize) -> Parsed
+    ensures { λ r. ⌜ r ≡ codeAt (now (s .entry)) code at ⌝ }
+{
+    match code {
+        1 => allocate_at(s, at),
+        2 => Parsed::Found(Entry::Init, at),
+        3 => Parsed::Found(Entry::Reset, at),
+        4 => one_at(s, 4, at),
+        5 => write_at(s, at),
+        6 => read_at(s, at),
+        7 => stall_at(s, at),
+        8 => is_stalled_at(s, at),
+        9 => Parsed::Found(Entry::Poll, at),
+        10 => Parsed::Found(Entry::Interrupt, at),
+        11 => Parsed::Found(Entry::Enable, at),
+        12 => arrival_at(s, at),
+        13 => one_at(s, 13, at),
+        14 => bus_at(s, at),
+        15 => Parsed::Found(Entry::SetupEnd, at),
+        16 => one_at(s, 16, at),
+        17 => one_at(s, 17, at),
+        _ => Parsed::Bad,
+    }
+}
+
 fn allocate_at(s: &[u8], at: usize) -> Parsed
     ensures { λ r. ⌜ r ≡ allocateAt (now (s .entry)) at ⌝ }
 {
@@ -29,6 +68,16 @@ fn allocate_at(s: &[u8], at: usize) -> Parsed
     }
 }
 
+// An entry with one argument, an address or an endpoint.
+fn one_at(s: &[u8], code: u16, at: usize) -> Parsed
+    ensures { λ r. ⌜ r ≡ oneAt (oneOf code) (now (s .entry)) at ⌝ }
+{
+    match trace_arguments::arg_at(s, at, 255) {
+        Arg::Got(a, past) => Parsed::Found(one_of(code, trace_arguments::narrow(a)), past),
+        Arg::No => Parsed::Bad,
+    }
+}
+
 fn one_of(code: u16, a: u8) -> Entry
     ensures { λ r. ⌜ r ≡ oneOf code a ⌝ }
 {
@@ -37,16 +86,6 @@ fn one_of(code: u16, a: u8) -> Entry
         13 => Entry::Collect(a),
         16 => Entry::Underrun(a),
         _ => Entry::Overrun(a),
-    }
-}
-
-// An entry with one argument, an address or an endpoint.
-fn one_at(s: &[u8], code: u16, at: usize) -> Parsed
-    ensures { λ r. ⌜ r ≡ oneAt (oneOf code) (now (s .entry)) at ⌝ }
-{
-    match trace_arguments::arg_at(s, at, 255) {
-        Arg::Got(a, past) => Parsed::Found(one_of(code, trace_arguments::narrow(a)), past),
-        Arg::No => Parsed::Bad,
     }
 }
 
@@ -114,45 +153,6 @@ fn bus_at(s: &[u8], at: usize) -> Parsed
     match trace_arguments::arg_at(s, at, 2) {
         Arg::Got(a, past) => Parsed::Found(Entry::Bus(trace_arguments::bus_of(a)), past),
         Arg::No => Parsed::Bad,
-    }
-}
-
-// The entry with this code whose arguments begin at a place.
-fn code_at(s: &[u8], code: u16, at: usize) -> Parsed
-    ensures { λ r. ⌜ r ≡ codeAt (now (s .entry)) code at ⌝ }
-{
-    match code {
-        1 => allocate_at(s, at),
-        2 => Parsed::Found(Entry::Init, at),
-        3 => Parsed::Found(Entry::Reset, at),
-        4 => one_at(s, 4, at),
-        5 => write_at(s, at),
-        6 => read_at(s, at),
-        7 => stall_at(s, at),
-        8 => is_stalled_at(s, at),
-        9 => Parsed::Found(Entry::Poll, at),
-        10 => Parsed::Found(Entry::Interrupt, at),
-        11 => Parsed::Found(Entry::Enable, at),
-        12 => arrival_at(s, at),
-        13 => one_at(s, 13, at),
-        14 => bus_at(s, at),
-        15 => Parsed::Found(Entry::SetupEnd, at),
-        16 => one_at(s, 16, at),
-        17 => one_at(s, 17, at),
-        _ => Parsed::Bad,
-    }
-}
-
-// What stands at a place of a trace.
-pub fn entry_at(trace: &[u8], at: usize) -> Parsed
-    ensures { λ r. ⌜ r ≡ entryAt (now (trace .entry)) at ⌝ }
-{
-    if trace.len() <= at {
-        return Parsed::End;
-    }
-    match trace_reader::number_from(trace, at) {
-        Number::Value(code, past) => code_at(trace, code, past),
-        Number::Bad => Parsed::Bad,
     }
 }
 

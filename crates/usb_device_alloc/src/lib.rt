@@ -15,13 +15,34 @@ ghost use Rattle.board.specs.Boards.{rows};
 ghost use Rattle.endpoints.specs.Endpoints.{ask};
 ghost use Rattle.call_rules.specs.Alloc.{allocated, allocRanIf, allocEpCall};
 
-// The answer of alloc_endpoint, as `alloc_ep` hands it on.
-fn handed_on(a: Answer) -> AllocAnswer
-    ensures { λ r. ⌜ r ≡ allocated a ⌝ }
+// The source's polling interval goes nowhere and is left out.
+pub fn alloc_ep(
+    k: Record,
+    ep_dir: Direction,
+    ep_addr: Wanted,
+    ep_type: EndpointType,
+    max_packet_size: u16,
+) -> AllocCalled
+    ensures { λ a. ⌜ a ≡ allocEpCall k (ask «ep_type» «ep_dir» «max_packet_size») «ep_addr» ⌝ }
 {
-    match a {
-        Answer::Done(n) => AllocAnswer::Done(n),
-        Answer::Refused(e) => AllocAnswer::NotGiven(e),
+    let r = k.regs;
+    let b = r.board;
+    let w = r.words;
+    let e = k.endpoints;
+    let c = k.control_state;
+    let f = k.irq;
+    let ok = record_ops::sound(b, &w, f);
+    let o = allocate(ok, b, e, ep_dir, ep_addr, ep_type, max_packet_size);
+    let a = o.answer;
+    let next = o.endpoints;
+    AllocCalled {
+        answer: a,
+        record: Record {
+            regs: r,
+            endpoints: next,
+            control_state: c,
+            irq: f,
+        },
     }
 }
 
@@ -51,33 +72,12 @@ fn allocate(
     }
 }
 
-// The source's polling interval goes nowhere and is left out.
-pub fn alloc_ep(
-    k: Record,
-    ep_dir: Direction,
-    ep_addr: Wanted,
-    ep_type: EndpointType,
-    max_packet_size: u16,
-) -> AllocCalled
-    ensures { λ a. ⌜ a ≡ allocEpCall k (ask «ep_type» «ep_dir» «max_packet_size») «ep_addr» ⌝ }
+// The answer of alloc_endpoint, as `alloc_ep` hands it on.
+fn handed_on(a: Answer) -> AllocAnswer
+    ensures { λ r. ⌜ r ≡ allocated a ⌝ }
 {
-    let r = k.regs;
-    let b = r.board;
-    let w = r.words;
-    let e = k.endpoints;
-    let c = k.control_state;
-    let f = k.irq;
-    let ok = record_ops::sound(b, &w, f);
-    let o = allocate(ok, b, e, ep_dir, ep_addr, ep_type, max_packet_size);
-    let a = o.answer;
-    let next = o.endpoints;
-    AllocCalled {
-        answer: a,
-        record: Record {
-            regs: r,
-            endpoints: next,
-            control_state: c,
-            irq: f,
-        },
+    match a {
+        Answer::Done(n) => AllocAnswer::Done(n),
+        Answer::Refused(e) => AllocAnswer::NotGiven(e),
     }
 }

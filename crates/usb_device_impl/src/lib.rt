@@ -83,19 +83,6 @@ pub fn admit_at(numbers: usize, b: Board, w: &[u16; 46], f: Flags, ep: u8) -> Ad
     admit(numbers, b, w, f, record_ops::endpoints(b) <= ep)
 }
 
-fn run_bus_init(b: Board, w: &mut [u16; 46], list: &mut [u16], c: ControlState, f: Flags) -> Ran
-    ensures { λ o. ⌜ left o (now (w .exit)) (now (list .exit)) ≡ busInitRan b c f (log (now (w .entry)) (now (list .entry)) 0) ⌝ }
-{
-    let t = admit(list.len(), b, w, f, false);
-    match t {
-        Admission::Refused(x) => refuse(x, c),
-        Admission::Clear => {
-            let n = common_impl::bus_init(w, list, 0);
-            done(n, c)
-        }
-    }
-}
-
 pub fn bus_init(k: Record, list: &mut [u16]) -> Called
     ensures { λ a. ⌜ record { call = a; list = now (list .exit) } ≡ busInitCall k (now (list .entry)) ⌝ }
 {
@@ -108,14 +95,14 @@ pub fn bus_init(k: Record, list: &mut [u16]) -> Called
     finish(k, w, o)
 }
 
-fn run_enable(b: Board, w: &mut [u16; 46], list: &mut [u16], c: ControlState, f: Flags) -> Ran
-    ensures { λ o. ⌜ left o (now (w .exit)) (now (list .exit)) ≡ enableRan b c f (log (now (w .entry)) (now (list .entry)) 0) ⌝ }
+fn run_bus_init(b: Board, w: &mut [u16; 46], list: &mut [u16], c: ControlState, f: Flags) -> Ran
+    ensures { λ o. ⌜ left o (now (w .exit)) (now (list .exit)) ≡ busInitRan b c f (log (now (w .entry)) (now (list .entry)) 0) ⌝ }
 {
     let t = admit(list.len(), b, w, f, false);
     match t {
         Admission::Refused(x) => refuse(x, c),
         Admission::Clear => {
-            let n = stores::write_faddr(w, list, 0, 0);
+            let n = common_impl::bus_init(w, list, 0);
             done(n, c)
         }
     }
@@ -133,6 +120,19 @@ pub fn enable(k: Record, list: &mut [u16]) -> Called
     finish(k, w, o)
 }
 
+fn run_enable(b: Board, w: &mut [u16; 46], list: &mut [u16], c: ControlState, f: Flags) -> Ran
+    ensures { λ o. ⌜ left o (now (w .exit)) (now (list .exit)) ≡ enableRan b c f (log (now (w .entry)) (now (list .entry)) 0) ⌝ }
+{
+    let t = admit(list.len(), b, w, f, false);
+    match t {
+        Admission::Refused(x) => refuse(x, c),
+        Admission::Clear => {
+            let n = stores::write_faddr(w, list, 0, 0);
+            done(n, c)
+        }
+    }
+}
+
 pub fn idle(c: ControlState) -> ControlState
     ensures { λ a. ⌜ a ≡ idled c ⌝ }
 {
@@ -140,20 +140,16 @@ pub fn idle(c: ControlState) -> ControlState
     i.reset_tx_len()
 }
 
-// The source takes any address; document 01 refuses one that the register's seven bits do not hold.
-fn address_refusal(numbers: usize, b: Board, w: &[u16; 46], f: Flags, addr: u8) -> Admission
-    ensures { λ a. ⌜ (a ≡ addressEntry (admissionBy (ltb numbers listNeed) (passes b (now (w .entry)) f) false) (leb addr 127)) × (a ≡ Clear → listNeed ≤ numbers) ⌝ }
+pub fn set_device_address(k: Record, addr: u8, list: &mut [u16]) -> Called
+    ensures { λ a. ⌜ record { call = a; list = now (list .exit) } ≡ addressCall k addr (now (list .entry)) ⌝ }
 {
-    let t = admit(numbers, b, w, f, false);
-    match t {
-        Admission::Refused(x) => Admission::Refused(x),
-        Admission::Clear => {
-            if addr <= 127 {
-                return Admission::Clear;
-            }
-            Admission::Refused(Refusal::BadAddress)
-        }
-    }
+    let r = k.regs;
+    let b = r.board;
+    let mut w = r.words;
+    let c = k.control_state;
+    let f = k.irq;
+    let o = run_set_address(b, &mut w, list, c, f, addr);
+    finish(k, w, o)
 }
 
 fn run_set_address(
@@ -176,16 +172,20 @@ fn run_set_address(
     }
 }
 
-pub fn set_device_address(k: Record, addr: u8, list: &mut [u16]) -> Called
-    ensures { λ a. ⌜ record { call = a; list = now (list .exit) } ≡ addressCall k addr (now (list .entry)) ⌝ }
+// The source takes any address; document 01 refuses one that the register's seven bits do not hold.
+fn address_refusal(numbers: usize, b: Board, w: &[u16; 46], f: Flags, addr: u8) -> Admission
+    ensures { λ a. ⌜ (a ≡ addressEntry (admissionBy (ltb numbers listNeed) (passes b (now (w .entry)) f) false) (leb addr 127)) × (a ≡ Clear → listNeed ≤ numbers) ⌝ }
 {
-    let r = k.regs;
-    let b = r.board;
-    let mut w = r.words;
-    let c = k.control_state;
-    let f = k.irq;
-    let o = run_set_address(b, &mut w, list, c, f, addr);
-    finish(k, w, o)
+    let t = admit(numbers, b, w, f, false);
+    match t {
+        Admission::Refused(x) => Admission::Refused(x),
+        Admission::Clear => {
+            if addr <= 127 {
+                return Admission::Clear;
+            }
+            Admission::Refused(Refusal::BadAddress)
+        }
+    }
 }
 
 // The trait's own: the chip can't do it.

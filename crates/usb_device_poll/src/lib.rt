@@ -21,118 +21,6 @@ ghost use Rattle.round_rules.specs.Zero.{roundOf};
 ghost use Rattle.round_rules.specs.Poll.{outcome, afterOf, polled, walkedOn, acceptedOn, roundOut, pollLogged, pollServed, pollAdmitted, pollCall};
 ghost use Rattle.record.specs.Record.{withReset};
 
-fn tell(out: u16, sent: u16, setup: bool) -> PollResult
-    ensures { λ a. ⌜ a ≡ told out sent setup ⌝ }
-{
-    let m = Masks {
-        ep_out: out,
-        ep_in_complete: sent,
-        ep_setup: csr_ops::weight(setup, 1),
-    };
-    if (sent != 0) | (out != 0) | setup {
-        return PollResult::Data(m);
-    }
-    PollResult::None
-}
-
-fn answer(a: PollResult, n: usize, c: ControlState, f: Flags) -> PollRan
-    ensures { λ o. ⌜ o ≡ polled a n c f ⌝ }
-{
-    PollRan {
-        answer: PollAnswer::Done(a),
-        n: n,
-        control_state: c,
-        irq: f,
-    }
-}
-
-fn walk_on(w: &mut [u16; 46], list: &mut [u16], o: Progress) -> PollRan
-    requires { ⌜ (o .irq .«ep_rx» < 64) × (o .n * 3 + 18 ≤ length (now list)) ⌝ }
-    ensures { λ p. ⌜ afterOf p (now (w .exit)) (now (list .exit)) ≡ walkedOn (roundOf o (now (w .entry)) (now (list .entry))) ⌝ }
-{
-    let f = o.irq;
-    let x = poll_walk::walk(f.ep_rx, w, list, o.n);
-    let a = tell(x.out, f.ep_tx, o.setup);
-    let mut g = f;
-    g.ep_tx = 0;
-    g.ep_rx = x.out;
-    answer(a, x.n, o.control_state, g)
-}
-
-fn accept_on(w: &mut [u16; 46], list: &mut [u16], o: Progress) -> PollRan
-    requires { ⌜ (o .irq .«ep_rx» < 64) × (o .n * 3 + 18 ≤ length (now list)) ⌝ }
-    ensures { λ p. ⌜ afterOf p (now (w .exit)) (now (list .exit)) ≡ acceptedOn (roundOf o (now (w .entry)) (now (list .entry))) ⌝ }
-{
-    let a = poll_zero::accept(o.control_state, o.irq);
-    let c = a.control_state;
-    let f = a.irq;
-    let p = Progress {
-        n: o.n,
-        control_state: c,
-        irq: f,
-        setup: o.setup,
-    };
-    walk_on(w, list, p)
-}
-
-fn round(w: &mut [u16; 46], list: &mut [u16], n: usize, c: ControlState, f: Flags) -> PollRan
-    requires { ⌜ (f .«ep_rx» < 64) × (n * 3 + 24 ≤ length (now list)) ⌝ }
-    ensures { λ p. ⌜ afterOf p (now (w .exit)) (now (list .exit)) ≡ roundOut (log (now (w .entry)) (now (list .entry)) n) c f ⌝ }
-{
-    let o = poll_zero::endpoint_zero(w, list, n, c, f);
-    accept_on(w, list, o)
-}
-
-fn reset_down(f: Flags) -> Flags
-    ensures { λ o. ⌜ o ≡ withReset f false ⌝ }
-{
-    let mut o = f;
-    o.reset = false;
-    o
-}
-
-// Reset, Resume, Suspend, and then a round. The Suspend step puts down the reset flag and not its own, as the source does.
-fn by_flags(w: &mut [u16; 46], list: &mut [u16], n: usize, c: ControlState, f: Flags) -> PollRan
-    requires { ⌜ (f .«ep_rx» < 64) × (n * 3 + 24 ≤ length (now list)) ⌝ }
-    ensures { λ p. ⌜ afterOf p (now (w .exit)) (now (list .exit)) ≡ pollLogged (log (now (w .entry)) (now (list .entry)) n) c f ⌝ }
-{
-    if f.reset {
-        return answer(PollResult::Reset, n, c, reset_down(f));
-    }
-    if f.resume {
-        let mut g = f;
-        g.resume = false;
-        return answer(PollResult::Resume, n, c, g);
-    }
-    if f.suspend {
-        return answer(PollResult::Suspend, n, c, reset_down(f));
-    }
-    round(w, list, n, c, f)
-}
-
-fn serve(b: Board, w: &mut [u16; 46], list: &mut [u16], c: ControlState, f: Flags) -> PollRan
-    requires { ⌜ (f .«ep_rx» < 64) × (384 ≤ length (now list)) ⌝ }
-    ensures { λ p. ⌜ afterOf p (now (w .exit)) (now (list .exit)) ≡ pollServed b (log (now (w .entry)) (now (list .entry)) 0) c f ⌝ }
-{
-    let n = overrun::check_overrun(w, list, 0, record_ops::endpoints(b));
-    by_flags(w, list, n, c, f)
-}
-
-fn admitted(b: Board, w: &mut [u16; 46], list: &mut [u16], c: ControlState, f: Flags) -> PollRan
-    ensures { λ p. ⌜ afterOf p (now (w .exit)) (now (list .exit)) ≡ pollAdmitted b (now (w .entry)) (now (list .entry)) c f ⌝ }
-{
-    let e = record_ops::admit(list.len() < record_ops::LIST, b, w, f, false);
-    match e {
-        Admission::Refused(x) => PollRan {
-            answer: PollAnswer::Refused(x),
-            n: 0,
-            control_state: c,
-            irq: f,
-        },
-        Admission::Clear => serve(b, w, list, c, f),
-    }
-}
-
 pub fn poll(k: Record, list: &mut [u16]) -> PollCalled
     ensures { λ p. ⌜ outcome p (now (list .exit)) ≡ pollCall k (now (list .entry)) ⌝ }
 {
@@ -154,4 +42,116 @@ pub fn poll(k: Record, list: &mut [u16]) -> PollCalled
         },
         stores: o.n,
     }
+}
+
+fn admitted(b: Board, w: &mut [u16; 46], list: &mut [u16], c: ControlState, f: Flags) -> PollRan
+    ensures { λ p. ⌜ afterOf p (now (w .exit)) (now (list .exit)) ≡ pollAdmitted b (now (w .entry)) (now (list .entry)) c f ⌝ }
+{
+    let e = record_ops::admit(list.len() < record_ops::LIST, b, w, f, false);
+    match e {
+        Admission::Refused(x) => PollRan {
+            answer: PollAnswer::Refused(x),
+            n: 0,
+            control_state: c,
+            irq: f,
+        },
+        Admission::Clear => serve(b, w, list, c, f),
+    }
+}
+
+fn serve(b: Board, w: &mut [u16; 46], list: &mut [u16], c: ControlState, f: Flags) -> PollRan
+    requires { ⌜ (f .«ep_rx» < 64) × (384 ≤ length (now list)) ⌝ }
+    ensures { λ p. ⌜ afterOf p (now (w .exit)) (now (list .exit)) ≡ pollServed b (log (now (w .entry)) (now (list .entry)) 0) c f ⌝ }
+{
+    let n = overrun::check_overrun(w, list, 0, record_ops::endpoints(b));
+    by_flags(w, list, n, c, f)
+}
+
+// Reset, Resume, Suspend, and then a round. The Suspend step puts down the reset flag and not its own, as the source does.
+fn by_flags(w: &mut [u16; 46], list: &mut [u16], n: usize, c: ControlState, f: Flags) -> PollRan
+    requires { ⌜ (f .«ep_rx» < 64) × (n * 3 + 24 ≤ length (now list)) ⌝ }
+    ensures { λ p. ⌜ afterOf p (now (w .exit)) (now (list .exit)) ≡ pollLogged (log (now (w .entry)) (now (list .entry)) n) c f ⌝ }
+{
+    if f.reset {
+        return answer(PollResult::Reset, n, c, reset_down(f));
+    }
+    if f.resume {
+        let mut g = f;
+        g.resume = false;
+        return answer(PollResult::Resume, n, c, g);
+    }
+    if f.suspend {
+        return answer(PollResult::Suspend, n, c, reset_down(f));
+    }
+    round(w, list, n, c, f)
+}
+
+fn answer(a: PollResult, n: usize, c: ControlState, f: Flags) -> PollRan
+    ensures { λ o. ⌜ o ≡ polled a n c f ⌝ }
+{
+    PollRan {
+        answer: PollAnswer::Done(a),
+        n: n,
+        control_state: c,
+        irq: f,
+    }
+}
+
+fn reset_down(f: Flags) -> Flags
+    ensures { λ o. ⌜ o ≡ withReset f false ⌝ }
+{
+    let mut o = f;
+    o.reset = false;
+    o
+}
+
+fn round(w: &mut [u16; 46], list: &mut [u16], n: usize, c: ControlState, f: Flags) -> PollRan
+    requires { ⌜ (f .«ep_rx» < 64) × (n * 3 + 24 ≤ length (now list)) ⌝ }
+    ensures { λ p. ⌜ afterOf p (now (w .exit)) (now (list .exit)) ≡ roundOut (log (now (w .entry)) (now (list .entry)) n) c f ⌝ }
+{
+    let o = poll_zero::endpoint_zero(w, list, n, c, f);
+    accept_on(w, list, o)
+}
+
+fn accept_on(w: &mut [u16; 46], list: &mut [u16], o: Progress) -> PollRan
+    requires { ⌜ (o .irq .«ep_rx» < 64) × (o .n * 3 + 18 ≤ length (now list)) ⌝ }
+    ensures { λ p. ⌜ afterOf p (now (w .exit)) (now (list .exit)) ≡ acceptedOn (roundOf o (now (w .entry)) (now (list .entry))) ⌝ }
+{
+    let a = poll_zero::accept(o.control_state, o.irq);
+    let c = a.control_state;
+    let f = a.irq;
+    let p = Progress {
+        n: o.n,
+        control_state: c,
+        irq: f,
+        setup: o.setup,
+    };
+    walk_on(w, list, p)
+}
+
+fn walk_on(w: &mut [u16; 46], list: &mut [u16], o: Progress) -> PollRan
+    requires { ⌜ (o .irq .«ep_rx» < 64) × (o .n * 3 + 18 ≤ length (now list)) ⌝ }
+    ensures { λ p. ⌜ afterOf p (now (w .exit)) (now (list .exit)) ≡ walkedOn (roundOf o (now (w .entry)) (now (list .entry))) ⌝ }
+{
+    let f = o.irq;
+    let x = poll_walk::walk(f.ep_rx, w, list, o.n);
+    let a = tell(x.out, f.ep_tx, o.setup);
+    let mut g = f;
+    g.ep_tx = 0;
+    g.ep_rx = x.out;
+    answer(a, x.n, o.control_state, g)
+}
+
+fn tell(out: u16, sent: u16, setup: bool) -> PollResult
+    ensures { λ a. ⌜ a ≡ told out sent setup ⌝ }
+{
+    let m = Masks {
+        ep_out: out,
+        ep_in_complete: sent,
+        ep_setup: csr_ops::weight(setup, 1),
+    };
+    if (sent != 0) | (out != 0) | setup {
+        return PollResult::Data(m);
+    }
+    PollResult::None
 }

@@ -29,62 +29,72 @@ ghost use Rattle.board.specs.declared.Direction.the-variants.{Out};
 ghost use Rattle.record.specs.Record.{areaIn, needIn, passes};
 ghost use Rattle.transfer_rules.specs.Read.{readLeft, copied, readOther, got, readDone, readIn, readCall};
 
-// The source panics in these states.
-fn unreadable_in(s: ControlStateEnum) -> bool
-    ensures { λ b. ⌜ b ≡ unreadableIn s ⌝ }
+pub fn read(k: Record, ep: u8, buf: &mut [u8], fifo: &[u8], list: &mut [u16]) -> ReadCalled
+    ensures { λ o. ⌜ record { result = o; list = now (list .exit); buf = now (buf .exit) } ≡ readCall k ep (now (buf .entry)) (now (fifo .entry)) (now (list .entry)) ⌝ }
 {
-    match s {
-        ControlStateEnum::Idle => true,
-        ControlStateEnum::Setup => false,
-        ControlStateEnum::DataIn => true,
-        ControlStateEnum::DataOut => false,
-        ControlStateEnum::Accepted => true,
-        ControlStateEnum::NodataPhase => true,
+    let r = k.regs;
+    let e = k.endpoints;
+    let zero = e[0];
+    let conf = zero.ep_conf;
+    let b = r.board;
+    let mut w = r.words;
+    let o = read_by(
+        b,
+        &mut w,
+        list,
+        k.control_state,
+        k.irq,
+        conf.rx_max_packet_size as usize,
+        ep,
+        buf,
+        fifo,
+    );
+    let s = o.served;
+    let a = o.answer;
+    let c = s.control_state;
+    let f = s.irq;
+    ReadCalled {
+        answer: a,
+        record: Record {
+            regs: Regs { board: b, words: w },
+            endpoints: e,
+            control_state: c,
+            irq: f,
+        },
+        stores: s.n,
     }
 }
 
-fn not_readable(c: ControlState, ep: u8) -> bool
-    ensures { λ b. ⌜ b ≡ notReadable c ep ⌝ }
+// By what the tests came to. `size` is endpoint 0's recorded receive size.
+fn read_by(
+    b: Board,
+    w: &mut [u16; 46],
+    list: &mut [u16],
+    c: ControlState,
+    f: Flags,
+    size: usize,
+    ep: u8,
+    buf: &mut [u8],
+    fifo: &[u8],
+) -> ReadRan
+    ensures { λ o. ⌜ readLeft o (now (w .exit)) (now (list .exit)) (now (buf .exit)) ≡ readIn b (now (w .entry)) c f size ep (now (buf .entry)) (now (fifo .entry)) (now (list .entry)) ⌝ }
 {
-    let s = c.state;
-    (ep == 0) & unreadable_in(s)
-}
-
-// The source asserts a count of 8, and panics where the buffer has no byte 7.
-fn not_setup_in(s: ControlStateEnum, n: u16, room: usize) -> bool
-    ensures { λ b. ⌜ b ≡ notSetupIn s n room ⌝ }
-{
-    match s {
-        ControlStateEnum::Idle => false,
-        ControlStateEnum::Setup => !(n == 8) | (room < 8),
-        ControlStateEnum::DataIn => false,
-        ControlStateEnum::DataOut => false,
-        ControlStateEnum::Accepted => false,
-        ControlStateEnum::NodataPhase => false,
+    let v = refusal(b, w, c, f, ep, buf.len(), fifo.len(), list.len());
+    match v {
+        Verdict::Clear => take(b, w, list, ep, c, f, size, buf, fifo),
+        Verdict::Blocked => ReadRan {
+            answer: ReadAnswer::Refused(Refusal::WouldBlock),
+            served: peek::block(w, list, ep, c, f),
+        },
+        Verdict::Refused(x) => ReadRan {
+            answer: ReadAnswer::Refused(x),
+            served: Served {
+                n: 0,
+                control_state: c,
+                irq: f,
+            },
+        },
     }
-}
-
-fn not_setup(w: &[u16; 46], c: ControlState, ep: u8, room: usize) -> bool
-    ensures { λ b. ⌜ b ≡ notSetup (now (w .entry)) c ep room ⌝ }
-{
-    let s = c.state;
-    (ep == 0) & not_setup_in(s, regs::waiting_len(w, ep, Direction::Out), room)
-}
-
-// Read's own tests, in their order: 6, 12, 13.
-fn own_tests_at(w: &[u16; 46], c: ControlState, ep: u8, room: usize) -> Verdict
-    ensures { λ v. ⌜ v ≡ ownTestsAt (now (w .entry)) c ep room ⌝ }
-{
-    if !regs::waits(w, ep, Direction::Out) {
-        return Verdict::Blocked;
-    }
-    if not_readable(c, ep) {
-        return Verdict::Refused(Refusal::NotReadable);
-    }
-    if not_setup(w, c, ep, room) {
-        return Verdict::Refused(Refusal::NotSetup);
-    }
-    Verdict::Clear
 }
 
 // Every test, before anything changes: 15, 16, 8, then 6, 12, 13.
@@ -107,79 +117,121 @@ fn refusal(
     }
 }
 
-fn wide(x: u8) -> u16
-    ensures { λ r. ⌜ (r ≡ x) × (r < 256) ⌝ }
+// Read's own tests, in their order: 6, 12, 13.
+fn own_tests_at(w: &[u16; 46], c: ControlState, ep: u8, room: usize) -> Verdict
+    ensures { λ v. ⌜ v ≡ ownTestsAt (now (w .entry)) c ep room ⌝ }
 {
-    x as u16
-}
-
-// A byte of the buffer; 0 where it is too short, which it is not in Setup.
-fn byte_at(buf: &[u8], i: usize) -> u16
-    ensures { λ x. ⌜ (x ≡ getD (now (buf .entry)) i 0) × (x < 256) ⌝ }
-{
-    if i < buf.len() {
-        return wide(buf[i]);
+    if !regs::waits(w, ep, Direction::Out) {
+        return Verdict::Blocked;
     }
-    0
-}
-
-// wLength, low byte first.
-fn w_length(buf: &[u8]) -> u16
-    ensures { λ n. ⌜ n ≡ wLength (now (buf .entry)) ⌝ }
-{
-    byte_at(buf, 6) + byte_at(buf, 7) * 256
-}
-
-// The direction bit of the request's first byte.
-fn way_in(buf: &[u8]) -> bool
-    ensures { λ b. ⌜ b ≡ wayIn (now (buf .entry)) ⌝ }
-{
-    128 <= byte_at(buf, 0)
-}
-
-// The control state after a Setup packet that announces data.
-fn after_setup(c: ControlState, to_host: bool, n: u16) -> ControlState
-    ensures { λ o. ⌜ o ≡ afterSetup c «to_host» n ⌝ }
-{
-    if to_host {
-        let d = c.set_state(ControlStateEnum::DataIn);
-        return d.set_tx_len(n as u32);
+    if not_readable(c, ep) {
+        return Verdict::Refused(Refusal::NotReadable);
     }
-    c.set_state(ControlStateEnum::DataOut)
+    if not_setup(w, c, ep, room) {
+        return Verdict::Refused(Refusal::NotSetup);
+    }
+    Verdict::Clear
 }
 
-// No store more.
-fn leave(n: usize, c: ControlState, f: Flags) -> Served
-    ensures { λ o. ⌜ o ≡ record { n = n; «control_state» = c; irq = f } ⌝ }
+fn not_readable(c: ControlState, ep: u8) -> bool
+    ensures { λ b. ⌜ b ≡ notReadable c ep ⌝ }
 {
-    Served {
-        n: n,
-        control_state: c,
-        irq: f,
+    let s = c.state;
+    (ep == 0) & unreadable_in(s)
+}
+
+// The source panics in these states.
+fn unreadable_in(s: ControlStateEnum) -> bool
+    ensures { λ b. ⌜ b ≡ unreadableIn s ⌝ }
+{
+    match s {
+        ControlStateEnum::Idle => true,
+        ControlStateEnum::Setup => false,
+        ControlStateEnum::DataIn => true,
+        ControlStateEnum::DataOut => false,
+        ControlStateEnum::Accepted => true,
+        ControlStateEnum::NodataPhase => true,
     }
 }
 
-fn set_up(
+fn not_setup(w: &[u16; 46], c: ControlState, ep: u8, room: usize) -> bool
+    ensures { λ b. ⌜ b ≡ notSetup (now (w .entry)) c ep room ⌝ }
+{
+    let s = c.state;
+    (ep == 0) & not_setup_in(s, regs::waiting_len(w, ep, Direction::Out), room)
+}
+
+// The source asserts a count of 8, and panics where the buffer has no byte 7.
+fn not_setup_in(s: ControlStateEnum, n: u16, room: usize) -> bool
+    ensures { λ b. ⌜ b ≡ notSetupIn s n room ⌝ }
+{
+    match s {
+        ControlStateEnum::Idle => false,
+        ControlStateEnum::Setup => !(n == 8) | (room < 8),
+        ControlStateEnum::DataIn => false,
+        ControlStateEnum::DataOut => false,
+        ControlStateEnum::Accepted => false,
+        ControlStateEnum::NodataPhase => false,
+    }
+}
+
+fn take(
+    b: Board,
+    w: &mut [u16; 46],
+    list: &mut [u16],
+    ep: u8,
+    c: ControlState,
+    f: Flags,
+    size: usize,
+    buf: &mut [u8],
+    fifo: &[u8],
+) -> ReadRan
+    requires { ⌜ (passes b (now w) f ≡ true) × (needIn b ≤ length (now fifo)) × (384 ≤ length (now list)) ⌝ }
+    ensures { λ o. ⌜ readLeft o (now (w .exit)) (now (list .exit)) (now (buf .exit)) ≡ readDone b c f size ep (now (buf .entry)) (now (fifo .entry)) (log (now (w .entry)) (now (list .entry)) 0) ⌝ }
+{
+    let n = stores::write_index(w, list, 0, ep);
+    let count = fetch(b, w, ep, buf, fifo);
+    let s = serve(w, list, n, ep, c, f, count, size, buf);
+    ReadRan {
+        answer: ReadAnswer::Done(count),
+        served: s,
+    }
+}
+
+// The bytes of the packet that waits, as many as the buffer holds; all its length is answered.
+fn fetch(b: Board, w: &[u16; 46], ep: u8, buf: &mut [u8], fifo: &[u8]) -> usize
+    requires { ⌜ (rxCount ep (now w) ≤ areaIn b ep Out .size) × (needIn b ≤ length (now fifo)) ⌝ }
+    ensures { λ n. ⌜ (n ≡ rxCount ep (now (w .entry))) × (now (buf .exit) ≡ copied b ep n (now (buf .entry)) (now (fifo .entry))) ⌝ }
+{
+    let n = regs::waiting_len(w, ep, Direction::Out) as usize;
+    let area = record_ops::area(b, ep, Direction::Out);
+    fifo::take_bytes(fifo, area, n, buf);
+    n
+}
+
+// The packet is in the buffer, and is dropped.
+fn serve(
     w: &mut [u16; 46],
     list: &mut [u16],
     n: usize,
+    ep: u8,
     c: ControlState,
     f: Flags,
+    count: usize,
+    size: usize,
     buf: &[u8],
 ) -> Served
-    requires { ⌜ n * 3 + 3 ≤ length (now list) ⌝ }
-    ensures { λ o. ⌜ afterOf o (now (w .exit)) (now (list .exit)) ≡ setUp (now (buf .entry)) c f (log (now (w .entry)) (now (list .entry)) n) ⌝ }
+    requires { ⌜ n * 3 + 6 ≤ length (now list) ⌝ }
+    ensures { λ o. ⌜ afterOf o (now (w .exit)) (now (list .exit)) ≡ got ep (now (buf .entry)) count size c f (log (now (w .entry)) (now (list .entry)) n) ⌝ }
 {
-    let to_host = way_in(buf);
-    let length = w_length(buf);
-    if length == 0 {
-        return peek::end(w, list, n, c.set_state(ControlStateEnum::NodataPhase), f);
+    if ep == 0 {
+        return read_zero(w, list, n, c, f, count, size, buf);
     }
-    leave(n, after_setup(c, to_host, length), f)
+    read_other(w, list, n, c, f)
 }
 
-// Was the packet the last? It has `count` bytes, and `size` is endpoint 0's recorded receive size.
-fn data_out(
+// The packet is in the buffer: the endpoint is free for the next.
+fn read_zero(
     w: &mut [u16; 46],
     list: &mut [u16],
     n: usize,
@@ -187,14 +239,13 @@ fn data_out(
     f: Flags,
     count: usize,
     size: usize,
+    buf: &[u8],
 ) -> Served
-    requires { ⌜ n * 3 + 3 ≤ length (now list) ⌝ }
-    ensures { λ o. ⌜ afterOf o (now (w .exit)) (now (list .exit)) ≡ dataOut count size c f (log (now (w .entry)) (now (list .entry)) n) ⌝ }
+    requires { ⌜ n * 3 + 6 ≤ length (now list) ⌝ }
+    ensures { λ o. ⌜ afterOf o (now (w .exit)) (now (list .exit)) ≡ readZero (now (buf .entry)) count size c f (log (now (w .entry)) (now (list .entry)) n) ⌝ }
 {
-    if count < size {
-        return peek::end(w, list, n, c.set_state(ControlStateEnum::Idle), f);
-    }
-    leave(n, c, f)
+    let m = stores::modify_csr0l(w, list, n, Csr0lSet::ServicedRxPktRdy);
+    zero_by(w, list, m, c, f, count, size, buf)
 }
 
 // Endpoint 0, by its state. Of the last four none comes here: they are refused before.
@@ -222,8 +273,79 @@ fn zero_by(
     }
 }
 
-// The packet is in the buffer: the endpoint is free for the next.
-fn read_zero(
+fn set_up(
+    w: &mut [u16; 46],
+    list: &mut [u16],
+    n: usize,
+    c: ControlState,
+    f: Flags,
+    buf: &[u8],
+) -> Served
+    requires { ⌜ n * 3 + 3 ≤ length (now list) ⌝ }
+    ensures { λ o. ⌜ afterOf o (now (w .exit)) (now (list .exit)) ≡ setUp (now (buf .entry)) c f (log (now (w .entry)) (now (list .entry)) n) ⌝ }
+{
+    let to_host = way_in(buf);
+    let length = w_length(buf);
+    if length == 0 {
+        return peek::end(w, list, n, c.set_state(ControlStateEnum::NodataPhase), f);
+    }
+    leave(n, after_setup(c, to_host, length), f)
+}
+
+// The direction bit of the request's first byte.
+fn way_in(buf: &[u8]) -> bool
+    ensures { λ b. ⌜ b ≡ wayIn (now (buf .entry)) ⌝ }
+{
+    128 <= byte_at(buf, 0)
+}
+
+// A byte of the buffer; 0 where it is too short, which it is not in Setup.
+fn byte_at(buf: &[u8], i: usize) -> u16
+    ensures { λ x. ⌜ (x ≡ getD (now (buf .entry)) i 0) × (x < 256) ⌝ }
+{
+    if i < buf.len() {
+        return wide(buf[i]);
+    }
+    0
+}
+
+fn wide(x: u8) -> u16
+    ensures { λ r. ⌜ (r ≡ x) × (r < 256) ⌝ }
+{
+    x as u16
+}
+
+// wLength, low byte first.
+fn w_length(buf: &[u8]) -> u16
+    ensures { λ n. ⌜ n ≡ wLength (now (buf .entry)) ⌝ }
+{
+    byte_at(buf, 6) + byte_at(buf, 7) * 256
+}
+
+// No store more.
+fn leave(n: usize, c: ControlState, f: Flags) -> Served
+    ensures { λ o. ⌜ o ≡ record { n = n; «control_state» = c; irq = f } ⌝ }
+{
+    Served {
+        n: n,
+        control_state: c,
+        irq: f,
+    }
+}
+
+// The control state after a Setup packet that announces data.
+fn after_setup(c: ControlState, to_host: bool, n: u16) -> ControlState
+    ensures { λ o. ⌜ o ≡ afterSetup c «to_host» n ⌝ }
+{
+    if to_host {
+        let d = c.set_state(ControlStateEnum::DataIn);
+        return d.set_tx_len(n as u32);
+    }
+    c.set_state(ControlStateEnum::DataOut)
+}
+
+// Was the packet the last? It has `count` bytes, and `size` is endpoint 0's recorded receive size.
+fn data_out(
     w: &mut [u16; 46],
     list: &mut [u16],
     n: usize,
@@ -231,24 +353,14 @@ fn read_zero(
     f: Flags,
     count: usize,
     size: usize,
-    buf: &[u8],
 ) -> Served
-    requires { ⌜ n * 3 + 6 ≤ length (now list) ⌝ }
-    ensures { λ o. ⌜ afterOf o (now (w .exit)) (now (list .exit)) ≡ readZero (now (buf .entry)) count size c f (log (now (w .entry)) (now (list .entry)) n) ⌝ }
+    requires { ⌜ n * 3 + 3 ≤ length (now list) ⌝ }
+    ensures { λ o. ⌜ afterOf o (now (w .exit)) (now (list .exit)) ≡ dataOut count size c f (log (now (w .entry)) (now (list .entry)) n) ⌝ }
 {
-    let m = stores::modify_csr0l(w, list, n, Csr0lSet::ServicedRxPktRdy);
-    zero_by(w, list, m, c, f, count, size, buf)
-}
-
-// The bytes of the packet that waits, as many as the buffer holds; all its length is answered.
-fn fetch(b: Board, w: &[u16; 46], ep: u8, buf: &mut [u8], fifo: &[u8]) -> usize
-    requires { ⌜ (rxCount ep (now w) ≤ areaIn b ep Out .size) × (needIn b ≤ length (now fifo)) ⌝ }
-    ensures { λ n. ⌜ (n ≡ rxCount ep (now (w .entry))) × (now (buf .exit) ≡ copied b ep n (now (buf .entry)) (now (fifo .entry))) ⌝ }
-{
-    let n = regs::waiting_len(w, ep, Direction::Out) as usize;
-    let area = record_ops::area(b, ep, Direction::Out);
-    fifo::take_bytes(fifo, area, n, buf);
-    n
+    if count < size {
+        return peek::end(w, list, n, c.set_state(ControlStateEnum::Idle), f);
+    }
+    leave(n, c, f)
 }
 
 fn read_other(w: &mut [u16; 46], list: &mut [u16], n: usize, c: ControlState, f: Flags) -> Served
@@ -260,117 +372,5 @@ fn read_other(w: &mut [u16; 46], list: &mut [u16], n: usize, c: ControlState, f:
         n: m,
         control_state: c,
         irq: f,
-    }
-}
-
-// The packet is in the buffer, and is dropped.
-fn serve(
-    w: &mut [u16; 46],
-    list: &mut [u16],
-    n: usize,
-    ep: u8,
-    c: ControlState,
-    f: Flags,
-    count: usize,
-    size: usize,
-    buf: &[u8],
-) -> Served
-    requires { ⌜ n * 3 + 6 ≤ length (now list) ⌝ }
-    ensures { λ o. ⌜ afterOf o (now (w .exit)) (now (list .exit)) ≡ got ep (now (buf .entry)) count size c f (log (now (w .entry)) (now (list .entry)) n) ⌝ }
-{
-    if ep == 0 {
-        return read_zero(w, list, n, c, f, count, size, buf);
-    }
-    read_other(w, list, n, c, f)
-}
-
-fn take(
-    b: Board,
-    w: &mut [u16; 46],
-    list: &mut [u16],
-    ep: u8,
-    c: ControlState,
-    f: Flags,
-    size: usize,
-    buf: &mut [u8],
-    fifo: &[u8],
-) -> ReadRan
-    requires { ⌜ (passes b (now w) f ≡ true) × (needIn b ≤ length (now fifo)) × (384 ≤ length (now list)) ⌝ }
-    ensures { λ o. ⌜ readLeft o (now (w .exit)) (now (list .exit)) (now (buf .exit)) ≡ readDone b c f size ep (now (buf .entry)) (now (fifo .entry)) (log (now (w .entry)) (now (list .entry)) 0) ⌝ }
-{
-    let n = stores::write_index(w, list, 0, ep);
-    let count = fetch(b, w, ep, buf, fifo);
-    let s = serve(w, list, n, ep, c, f, count, size, buf);
-    ReadRan {
-        answer: ReadAnswer::Done(count),
-        served: s,
-    }
-}
-
-// By what the tests came to. `size` is endpoint 0's recorded receive size.
-fn read_by(
-    b: Board,
-    w: &mut [u16; 46],
-    list: &mut [u16],
-    ep: u8,
-    c: ControlState,
-    f: Flags,
-    size: usize,
-    buf: &mut [u8],
-    fifo: &[u8],
-) -> ReadRan
-    ensures { λ o. ⌜ readLeft o (now (w .exit)) (now (list .exit)) (now (buf .exit)) ≡ readIn b (now (w .entry)) c f size ep (now (buf .entry)) (now (fifo .entry)) (now (list .entry)) ⌝ }
-{
-    let v = refusal(b, w, c, f, ep, buf.len(), fifo.len(), list.len());
-    match v {
-        Verdict::Clear => take(b, w, list, ep, c, f, size, buf, fifo),
-        Verdict::Blocked => ReadRan {
-            answer: ReadAnswer::Refused(Refusal::WouldBlock),
-            served: peek::block(w, list, ep, c, f),
-        },
-        Verdict::Refused(x) => ReadRan {
-            answer: ReadAnswer::Refused(x),
-            served: Served {
-                n: 0,
-                control_state: c,
-                irq: f,
-            },
-        },
-    }
-}
-
-pub fn read(k: Record, ep: u8, buf: &mut [u8], fifo: &[u8], list: &mut [u16]) -> ReadCalled
-    ensures { λ o. ⌜ record { result = o; list = now (list .exit); buf = now (buf .exit) } ≡ readCall k ep (now (buf .entry)) (now (fifo .entry)) (now (list .entry)) ⌝ }
-{
-    let r = k.regs;
-    let e = k.endpoints;
-    let zero = e[0];
-    let conf = zero.ep_conf;
-    let b = r.board;
-    let mut w = r.words;
-    let o = read_by(
-        b,
-        &mut w,
-        list,
-        ep,
-        k.control_state,
-        k.irq,
-        conf.rx_max_packet_size as usize,
-        buf,
-        fifo,
-    );
-    let s = o.served;
-    let a = o.answer;
-    let c = s.control_state;
-    let f = s.irq;
-    ReadCalled {
-        answer: a,
-        record: Record {
-            regs: Regs { board: b, words: w },
-            endpoints: e,
-            control_state: c,
-            irq: f,
-        },
-        stores: s.n,
     }
 }
