@@ -26,6 +26,7 @@ typeNumber Isochronous = 1
 typeNumber Bulk = 2
 typeNumber Interrupt = 3
 
+-- and back; a number over 3 is taken for 3
 abbrev pub typeOf : ℕ → EndpointType
 typeOf n = cond (eqb n 0) Control (cond (eqb n 1) Isochronous (cond (eqb n 2) Bulk Interrupt))
 

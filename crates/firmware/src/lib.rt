@@ -2,12 +2,15 @@
 // ends and nothing in it fails.
 mod chip;
 
+use record::Answered;
 use record::Record;
 use round_rules::PollAnswer;
 use round_rules::PollResult;
 use transfer_rules::ReadAnswer;
 
-// A packet has arrived. After another interrupt the host's `collection`, `bus_reset`, .. stands in the place of `arrival`.
+// A packet has arrived: what became of it, and the record after the turn. (Refused, with 9, too long, or 17, the packet before it is unread, nothing of it
+// has changed the record: the board keeps it in its chip, and tells it again.) After another interrupt the host's `collection`, `bus_reset`, .. stands in
+// the place of `arrival`.
 pub fn turn(
     k: Record,
     ep: u8,
@@ -15,21 +18,35 @@ pub fn turn(
     buf: &mut [u8],
     fifo: &mut [u8],
     list: &mut [u16],
-) -> Record {
-    // 17: the packet before it is unread. Leave this one in the chip, and tell it again.
+) -> Answered {
     let a = host::arrival(k, ep, bytes, fifo);
     let i = usb_device_interrupt::on_interrupt(a.record);
     let p = usb_device_poll::poll(i.record, list);
     chip::carry_out(list, p.stores, fifo);
-    let answer = p.answer;
-    match answer {
-        PollAnswer::Done(told) => serve(p.record, told, buf, fifo, list),
-        // 15: too little is lent; 16: a record that can't be
-        PollAnswer::Refused(_) => p.record,
+    let arrived = a.answer;
+    let told = p.answer;
+    let o = serve(p.record, told, buf, fifo, list);
+    Answered {
+        record: o,
+        answer: arrived,
     }
 }
 
-fn serve(k: Record, told: PollResult, buf: &mut [u8], fifo: &[u8], list: &mut [u16]) -> Record {
+fn serve(k: Record, told: PollAnswer, buf: &mut [u8], fifo: &[u8], list: &mut [u16]) -> Record {
+    match told {
+        PollAnswer::Done(r) => serve_result(k, r, buf, fifo, list),
+        // 15: too little is lent; 16: a record that can't be
+        PollAnswer::Refused(_) => k,
+    }
+}
+
+fn serve_result(
+    k: Record,
+    told: PollResult,
+    buf: &mut [u8],
+    fifo: &[u8],
+    list: &mut [u16],
+) -> Record {
     match told {
         PollResult::Data(m) => read_named(k, m.ep_out | m.ep_setup, buf, fifo, list),
         PollResult::Reset => {
@@ -66,7 +83,7 @@ fn read_if(
     let answer = r.answer;
     match answer {
         ReadAnswer::Done(n) => chip::received(ep, buf, n),
-        // 6: named, and read already
+        // 6: named, and read already; 12, 13: the packet still waits
         ReadAnswer::Refused(_) => {}
     }
     r.record

@@ -1,17 +1,13 @@
--- Demand 3 over the driver, for any board: its four sentences, that they are not empty, and whose endpoints they are. Assumes nothing.
+-- The parts of demand 3 over the driver, for any board: its four sentences, what stands beside them, and that they are not empty. Assumes nothing.
 use mathlib.Core.Path.{_≡_, refl, sym, ap, subst, _∙_}
 use mathlib.Core.Bool.{true, false}
 use mathlib.Core.List.{List}
 use Prim.Native.Nat.{ℕ, _-_}
 use native.Mathlib.Omega.{arith}
 use lib.Dec.{T}
-use lib.ListN.{length}
 use Rattle.laws.specs.Words.{bit}
 use Rattle.laws.proofs.Words.{bit-zero}
 use Rattle.board.specs.declared.Board.{Board}
-use Rattle.board.specs.declared.Board.the-variants.{Display}
-use Rattle.board.specs.declared.Row.{Row}
-use Rattle.board.specs.Boards.{rows-display}
 use Rattle.board.specs.declared.Direction.the-variants.{Out}
 use Rattle.register_file.specs.Registers.{File, intrOf}
 use Rattle.register_file.proofs.Sides.{fresh-words, fresh-zero}
@@ -37,10 +33,6 @@ use Rattle.history.proofs.Steps.{does, one-place}
 use Rattle.history.proofs.Packets.{high, counted, none-waits, lasts, calls-take}
 use Rattle.history.proofs.Lengths.{arrives-long, stays-long}
 use Rattle.history.proofs.Fetching.{read-answered}
-
--- the customer's "1 to 5": the display's highest endpoint
-pub one-to-five : driver Display .top ≡ 5
-one-to-five = ap (λ (t : List Row). length t - 1) rows-display
 
 module _ (b : Board) where
   pub kept-fresh : Kept b (freshRecord b)
@@ -73,8 +65,8 @@ module _ (b : Board) where
   pub after-two : RoundAfter (driver b) 2 takesSuspend
   after-two = round-after lawful
 
-  pub demand-3 : Sentences (driver b)
-  demand-3 = sentences lawful after-two
+  pub four-sentences : Sentences (driver b)
+  four-sentences = sentences lawful after-two
 
   -- what arrived waits until it is taken
   pub until-taken : UntilTaken (driver b)

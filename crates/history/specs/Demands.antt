@@ -1,5 +1,6 @@
 -- The customer's demands over the driver in one place, each under the customer's own words: who wants to know what is promised begins here.
--- Demand 2, "same answers, same records, same register stores", is the contract of each call (docs/PROMISES.md).
+-- Demand 2, "same answers, same records, same register stores in the same order as the Rust", can't name the Rust: each call's contract holds the code to its
+-- definition, laws hold the definitions to document 01, and that they are what the Rust does is compared, not proved (docs/PROMISES.md, 'Demand 2').
 -- Assumes nothing.
 use mathlib.Core.Path.{_≡_}
 use Rattle.board.specs.declared.Board.{Board}

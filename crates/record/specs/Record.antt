@@ -94,6 +94,7 @@ refusalNumber TooLittleLent = 15
 refusalNumber BadRecord = 16
 refusalNumber OutOfTurn = 17
 
+-- document 01's number of an answer without a value
 abbrev pub replyNumber : Reply → ℕ
 replyNumber reply.Done = 0
 replyNumber (reply.Refused x) = refusalNumber x

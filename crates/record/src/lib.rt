@@ -54,8 +54,8 @@ pub enum Reply {
     Refused(Refusal),
 }
 
-// What is given back where no value is and no store is made: by the host's events and `on_interrupt`. The record stands first: so it is copied in
-// one go (bench/RESULTS.md).
+// What `on_interrupt` and the host's events but collection give back: no value, and no list is lent. The record stands first: so it is copied in one
+// go (bench/RESULTS.md).
 pub struct Answered {
     pub record: Record,
     pub answer: Reply,

@@ -27,7 +27,7 @@ use Rattle.round_rules.specs.declared.PollResult.the-variants.{Data, Res
 use Rattle.round_rules.specs.declared.PollAnswer.the-variants.{Done}
 use Rattle.round_rules.specs.Round.{masks, told}
 use Rattle.round_rules.specs.Poll.{ended, walkedOn, acceptedOn, roundOut, pollBy, pollLogged, pollServed, pollCall}
-use Rattle.round_rules.specs.Steps.{FlagStep, leftOf, AcceptedRound}
+use Rattle.round_rules.specs.Steps.{FlagStep, leftOf, SameElse, AcceptedRound}
 use Rattle.round_rules.proofs.PollReplies.{served}
 
 -- `if IRQ_RESET.load(..) { IRQ_RESET.store(false, ..); return PollResult::Reset; }`, and so on
@@ -123,3 +123,8 @@ module _ (k : Record) (l : List ℕ) (long : 384 ≤ length l) (sound : recordSo
   poll-suspends p q s =
       subst (FlagStep Suspend checked (k .«control_state») (k .irq) false (k .irq .suspend) (k .irq .resume)) (sym is-served)
       (suspend-step checked (k .«control_state») (k .irq) p q s)
+
+-- of every poll, refused too
+pub same-else : (k : Record) (l : List ℕ) → SameElse k (pollCall k l .result .«record»)
+unfolding pollCall
+same-else k l = record { board = refl; endpoints = refl }

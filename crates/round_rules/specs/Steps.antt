@@ -7,6 +7,7 @@ use Rattle.store_rules.specs.Stores.{Log, log}
 use Rattle.control_state.specs.declared.ControlState.{ControlState}
 use Rattle.control_state.specs.declared.ControlStateEnum.the-variants.{Idle}
 use Rattle.record.specs.declared.Flags.{Flags}
+use Rattle.record.specs.declared.Record.{Record}
 use Rattle.round_rules.specs.declared.Masks.{Masks}
 use Rattle.round_rules.specs.declared.PollResult.{PollResult}
 use Rattle.round_rules.specs.declared.PollResult.the-variants.{Data}
@@ -29,6 +30,11 @@ pub record FlagStep (a : PollResult) (g : Log) (c : ControlState) (f : Flags) (r
 abbrev pub leftOf : PollOutcome → After
 leftOf o =
     after (o .result .answer) (log (o .result .«record» .regs .words) (o .list) (o .result .stores)) (o .result .«record» .«control_state») (o .result .«record» .irq)
+
+-- whatever it answers, it leaves the board and the endpoints as they were
+pub record SameElse (k q : Record) : Type 0 where
+  pub board : q .regs .board ≡ k .regs .board
+  pub endpoints : q .endpoints ≡ k .endpoints
 
 -- a round in Accepted names endpoint 0 as sent, though no packet was stored, and ends in Idle
 pub record AcceptedRound (c : ControlState) (t : After) : Type 0 where

@@ -67,7 +67,7 @@ busAt s at = withArg (λ a past. Found (Bus (busOf a)) past) (argAt s at 2)
 unfoldable pub oneAt : (ℕ → Entry) → List ℕ → ℕ → Parsed
 oneAt entry s at = withArg (λ a past. Found (entry a) past) (argAt s at 255)
 
--- the same by the code, as the program chooses
+-- which of the four, by the code, as the program chooses; a code other than 4, 13 and 16 is taken for 17, and `codeAt` asks no other
 abbrev pub oneOf : ℕ → ℕ → Entry
 oneOf c a = cond (eqb c 4) (Address a) (cond (eqb c 13) (Collect a) (cond (eqb c 16) (Underrun a) (Overrun a)))
 

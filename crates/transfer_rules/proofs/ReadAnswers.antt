@@ -39,7 +39,7 @@ module _ (k : Record) (ep : ℕ) (b f l : List ℕ) where
   replied : readNumber (readCall k ep b f l .result .answer) ≡ verdictNumber (tests k ep (length b) (length f) (length l))
   replied = ap (λ (o : ReadOutcome). readNumber (o .result .answer)) by-tests ∙ answered (tests k ep (length b) (length f) (length l))
 
-  -- document 01, 'Reply numbers': "ReadCase exactly when"
+  -- document 01, 'Reply numbers': "Given exactly when"
   pub exactly : (m : ℕ) → readNumber (readCall k ep b f l .result .answer) ≡ m ↔ ReadCase k ep (length b) (length f) (length l) m
   exactly m = (
     λ e. subst (λ (x : ℕ). ReadCase k ep (length b) (length f) (length l) x) (sym replied ∙ e) (meets k ep (length b) (length f) (length l)),

@@ -90,7 +90,7 @@ module _ (k : Record) (ep n f l : ℕ) where
   by-cases (little p) = rw p
   by-cases (unsound p q) = rw (p, q)
 
--- document 01, 'Reply numbers': "ReadCase exactly when"
+-- document 01, 'Reply numbers': "Given exactly when"
 pub replies : (k : Record) (ep : ℕ) (b f l : List ℕ)
     → Replies (readNumber (readCall k ep b f l .result .answer)) (readRows k ep (length b) (length f) (length l))
 replies k ep b f l =

@@ -24,7 +24,7 @@ use Rattle.transfer_rules.specs.Write.{WriteLeft, WriteOutcome, outcome,
 use Rattle.transfer_rules.proofs.WriteCases.{WriteCase}
 use Rattle.transfer_rules.proofs.WriteVerdicts.{meets, decides, is-blocked}
 
--- a packet that is writeDone is done, at whatever endpoint and in whatever state
+-- a write that is done answers its length, at whatever endpoint and in whatever state
 pub write-done : (b : Board) (c : ControlState) (f : Flags) (t ep : ℕ) (bytes x : List ℕ) (g : Log) → writeDone b c f t ep bytes x g .answer ≡ Done (length bytes)
 unfolding writeDone
 write-done b c f t ep bytes x g = refl
@@ -49,7 +49,7 @@ module _ (k : Record) (ep : ℕ) (b f l : List ℕ) where
   number : writeNumber (writeCall k ep b f l .result .answer) ≡ verdictNumber verdict-of
   number = ap (λ (o : WriteOutcome). writeNumber (o .result .answer)) call-is ∙ answered verdict-of
 
-  -- document 01, 'Reply numbers': "WriteCase exactly when"
+  -- document 01, 'Reply numbers': "Given exactly when"
   pub exactly : (m : ℕ) → writeNumber (writeCall k ep b f l .result .answer) ≡ m ↔ WriteCase k ep (length b) (length f) (length l) m
   exactly m = (
     λ e. subst (λ (x : ℕ). WriteCase k ep (length b) (length f) (length l) x) (sym number ∙ e) (meets k ep (length b) (length f) (length l)),

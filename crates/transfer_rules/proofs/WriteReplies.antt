@@ -81,7 +81,7 @@ module _ (k : Record) (ep n f l : ℕ) where
   by-cases (little p) = rw p
   by-cases (unsound p q) = rw (p, q)
 
--- document 01, 'Reply numbers': "WriteCase exactly when"
+-- document 01, 'Reply numbers': "Given exactly when"
 pub replies : (k : Record) (ep : ℕ) (b f l : List ℕ)
     → Replies (writeNumber (writeCall k ep b f l .result .answer)) (writeRows k ep (length b) (length f) (length l))
 replies k ep b f l =

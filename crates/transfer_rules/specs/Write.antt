@@ -61,7 +61,7 @@ sentOther c f g = after c f (modifyTxcsrl txcsrl.TxPktRdy g)
 unfoldable pub sent : ℕ → ℕ → ℕ → ControlState → Flags → Log → After
 sent ep n t c f g = cond (eqb ep 0) (sentZero (c .state) n t c f g) (sentOther c f g)
 
--- a packet that is writeDone: its bytes stand in the endpoint's area, and every other byte stays
+-- a write that is done: its bytes stand in the endpoint's area, and every other byte stays
 unfoldable pub writeDone : Board → ControlState → Flags → ℕ → ℕ → List ℕ → List ℕ → Log → WriteLeft
 writeDone b c f t ep bytes x g =
     writeLeft (Done (length bytes)) (pasted x (areaIn b ep In .start) bytes) (sent ep (length bytes) t c f (loaded ep (length bytes) g))
