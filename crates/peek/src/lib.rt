@@ -1,30 +1,16 @@
-// What `write` and `read` share: the tests that come first, and how they end.
+// What `write` and `read` share: whether enough is lent, and the two endings that both have.
 use board::Board;
 use control_state::ControlState;
 use csr::Csr0lSet;
-use record::Admission;
 use record::Flags;
 use transfer_rules::Served;
 ghost use mathlib.Core.Path.{_≡_};
 ghost use Prim.Native.Nat.{_+_, _*_, _≤_};
 ghost use lib.ListN.{length};
 ghost use Rattle.store_rules.specs.Stores.{log};
-ghost use Rattle.transfer_rules.specs.Peek.{shortIn, firstTests, afterOf, blocked, ended};
+ghost use Rattle.transfer_rules.specs.Peek.{shortIn, afterOf, blocked, ended};
 
-// The tests that come first in both: 15, 16, 8.
-pub fn admit(b: Board, w: &[u16; 46], f: Flags, ep: u8, fifo: usize, list: usize) -> Admission
-    ensures { λ a. ⌜ a ≡ firstTests b (now (w .entry)) f ep fifo list ⌝ }
-{
-    record_ops::admit(
-        is_short(b, fifo, list),
-        b,
-        w,
-        f,
-        record_ops::endpoints(b) <= ep,
-    )
-}
-
-fn is_short(b: Board, fifo: usize, list: usize) -> bool
+pub fn is_short(b: Board, fifo: usize, list: usize) -> bool
     ensures { λ s. ⌜ s ≡ shortIn b fifo list ⌝ }
 {
     (fifo < record_ops::need(b)) | (list < record_ops::LIST)

@@ -7,11 +7,12 @@ use Rattle.usb_device_write.proofs.refusal.Tie as tie
 
 returns : tie.Need-returns
 unfolding testsIn
-returns c = tests-clear _ (c .before .before .before .admit .ensures) (c .before .enum-told .given .1) (c .own-tests-at .ensures)
+returns c = search (tests-clear, needs)
 
 returns-2 : tie.Need-returns-2
 unfolding testsIn
-returns-2 c = tests-refused _ (c .before .before .before .admit .ensures) (c .before .a .given .1)
+returns-2 c = search (tests-refused, needs)
 
 pub refusal-spec : {M : Type 1} → statement M
-refusal-spec = tie.close (tie.spec (λ c κs. search needs) (λ c. search needs) (λ c κs. search needs) (λ c. search needs) returns returns-2)
+refusal-spec = tie.close (tie.spec (λ c κs. search needs) (λ c κs. search needs) (λ c κs. search needs) (λ c. search needs) (λ c κs. search needs)
+    (λ c. search needs) returns returns-2)
