@@ -56,6 +56,20 @@ fn reads(k: Record, ep: u8, twice: bool, fifo: &[u8], list: &mut [u16]) {
     print(a.record, list, a.stores);
 }
 
+// The host's event: it lists no store, and the original has no such call.
+fn arrivals(k: Record, ep: u8, twice: bool, n: usize, fifo: &mut [u8], list: &[u16])
+    requires { ⌜ n ≤ 512 ⌝ }
+{
+    let packet = [7u8; 512];
+    let a = host::arrival(k, ep, &packet[..n], fifo);
+    if twice {
+        let b = host::arrival(k, ep, &packet[..n], fifo);
+        print(b.record, list, 0);
+        return;
+    }
+    print(a.record, list, 0);
+}
+
 fn interrupts(k: Record, twice: bool, list: &[u16]) {
     let a = usb_device_interrupt::on_interrupt(k);
     if twice {
@@ -86,7 +100,8 @@ fn allocations(k: Record, twice: bool, list: &[u16]) {
     print(a.record, list, 0);
 }
 
-// a, b: poll; c: interrupt; d: reset; e: an endpoint asked for with no number; f, g, h: write of 8, 64 and 512 bytes; i, j, k: read.
+// a, b: poll; c: interrupt; d: reset; e: an endpoint asked for with no number; f, g, h: write of 8, 64 and 512 bytes; i, j, k: read;
+// l, m, n: arrival of 8, 64 and 512 bytes.
 fn run(case: u8, k: Record, ep: u8, twice: bool, fifo: &mut [u8], list: &mut [u16]) {
     if case <= b'b' {
         polls(k, twice, list);
@@ -116,7 +131,19 @@ fn run(case: u8, k: Record, ep: u8, twice: bool, fifo: &mut [u8], list: &mut [u1
         writes(k, ep, twice, 512, fifo, list);
         return;
     }
-    reads(k, ep, twice, fifo, list);
+    if case <= b'k' {
+        reads(k, ep, twice, fifo, list);
+        return;
+    }
+    if case == b'l' {
+        arrivals(k, ep, twice, 8, fifo, list);
+        return;
+    }
+    if case == b'm' {
+        arrivals(k, ep, twice, 64, fifo, list);
+        return;
+    }
+    arrivals(k, ep, twice, 512, fifo, list);
 }
 
 fn main() {
