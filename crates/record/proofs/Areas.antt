@@ -1,21 +1,18 @@
 -- Where an endpoint's area lies: it ends within the buffer that is asked for, and shares no byte with another. Assumes nothing.
-use Prim.Native.Nat.{ℕ, zero, suc, _+_, _≤_, _<_}
+use Prim.Native.Nat.{ℕ, _+_, _≤_, _<_}
 use mathlib.Core.Bool.{false}
 use borrow.Author.Tests.{leb-false}
 use lib.Dec.{leb}
-use mathlib.Core.Path.{_≡_, refl, ap, sym, _∙_}
+use mathlib.Core.Path.{_≡_, ap, _∙_}
 use native.Mathlib.Omega.{arith}
-use native.Mathlib.Nat.{le-trans}
-use lib.ListN.{length, getD, List·getD-eq-default}
-use Rattle.board.specs.declared.Row.{Row}
+use lib.ListN.{length, getD}
 use Rattle.board.specs.declared.Board.{Board}
 use Rattle.board.specs.declared.Board.the-variants.{Display}
 use Rattle.board.specs.declared.Direction.{Direction}
-use Rattle.board.specs.declared.Direction.the-variants.{Out, In}
 use Rattle.board.specs.Table as table
-use Rattle.board.specs.Table.{none, roomOf, place, Disjoint}
+use Rattle.board.specs.Table.{place, Disjoint}
 use Rattle.board.specs.Boards.{rows, rows-if-display, at-most-six}
-use Rattle.board.proofs.Areas.{within, share-none, place-past, display-total}
+use Rattle.board.proofs.Areas.{room-at, sizes-all, within, share-none, display-total}
 use Rattle.record.specs.declared.Record.{Record}
 use Rattle.record.specs.Record.{areaIn, areaOf, needIn, needOf, endpointsIn, endpointsOf, sizesOf}
 
@@ -41,34 +38,7 @@ pub below-six : (b : Board) (e : ℕ) → leb (endpointsIn b) e ≡ false → e 
 unfolding endpointsIn
 below-six b e p = omega (arith, leb-false (length (rows b)) e p, at-most-six b)
 
--- past the last endpoint an area has no room
-no-room : (d : Direction) → roomOf none d ≡ 0
-no-room Out = refl
-no-room In = refl
-
-past-room : (k : Record) (e : ℕ) (d : Direction) → 6 ≤ e → areaOf k e d .size ≡ 0
-unfolding areaIn areaOf
-past-room k e d h =
-    ap (λ (r : Row). roomOf r d) (List·getD-eq-default (rows (k .regs .board)) none (le-trans (at-most-six (k .regs .board)) h)) ∙ no-room d
-
 -- the list of sizes has each area's at its place
-past-size : (k : Record) (e : ℕ) (d : Direction) → 6 ≤ e → getD (sizesOf k) (place e d) 0 ≡ 0
-unfolding table.sizesOf areaIn areaOf
-past-size k e d h = List·getD-eq-default (sizesOf k) 0 (place-past e 6 d h)
-
 pub size-at : (k : Record) (e : ℕ) (d : Direction) → getD (sizesOf k) (place e d) 0 ≡ areaOf k e d .size
-unfolding table.sizesOf areaIn areaOf
-size-at k zero Out = refl
-size-at k zero In = refl
-size-at k (suc zero) Out = refl
-size-at k (suc zero) In = refl
-size-at k (suc (suc zero)) Out = refl
-size-at k (suc (suc zero)) In = refl
-size-at k (suc (suc (suc zero))) Out = refl
-size-at k (suc (suc (suc zero))) In = refl
-size-at k (suc (suc (suc (suc zero)))) Out = refl
-size-at k (suc (suc (suc (suc zero)))) In = refl
-size-at k (suc (suc (suc (suc (suc zero))))) Out = refl
-size-at k (suc (suc (suc (suc (suc zero))))) In = refl
-size-at k (suc (suc (suc (suc (suc (suc e)))))) d =
-    past-size k (suc (suc (suc (suc (suc (suc e)))))) d (omega arith) ∙ sym (past-room k (suc (suc (suc (suc (suc (suc e)))))) d (omega arith))
+unfolding areaIn areaOf
+size-at k e d = sizes-all (rows (k .regs .board)) (place e d) (at-most-six (k .regs .board)) ∙ room-at (rows (k .regs .board)) e d
