@@ -1,14 +1,12 @@
--- `board::sizes` meets its contract: the table of sizes says what the table of endpoints says.
+-- `board::sizes` meets its contract.
 -- Assumes nothing.
-use mathlib.Core.Path.{ap, sym}
-use Rattle.board.specs.Table.{sizesOf}
+use borrow.Author.Needs.{needs}
 use Rattle.board.specs.Boards.{rows-if-display, sole}
 use Rattle.board.proofs.sizes.Statement.{statement}
 use Rattle.board.proofs.sizes.Tie as tie
 
 returns : tie.Need-returns
-unfolding sizesOf
-returns c = sym (ap sizesOf (rows-if-display (c .args .b) (sole (c .args .b))))
+returns c = rw (rows-if-display (c .before .args .b) (sole (c .before .args .b))) (c .sizes-of .ensures)
 
 pub sizes-spec : {M : Type 1} → statement M
-sizes-spec = tie.close (tie.spec returns)
+sizes-spec = tie.close (tie.spec (λ c κs. search needs) returns)
