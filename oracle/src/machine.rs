@@ -4,6 +4,9 @@
 //! WouldBlock, 7 its own answer to `force_reset`. Replies 8 to 17 stand where the original would panic
 //! or document 01 adds a refusal: they are given before the original is called. Reply 15 can't be
 //! given here, since nothing is lent to these calls.
+//!
+//! What document 02 changes of the original is made here too, beside the call that it changes, and
+//! docs/DIFFERENCES.md lists it. A machine that runs as published leaves it out.
 
 use crate::alloc_endpoint::{alloc_endpoint, EndpointAllocError};
 use crate::common_impl;
@@ -60,6 +63,8 @@ static ALONE: Mutex<bool> = Mutex::new(false);
 
 pub struct Machine {
     driver: UsbdBus<Chip>,
+    /// Nothing of document 02.
+    pub published: bool,
     _alone: MutexGuard<'static, bool>,
 }
 
@@ -78,6 +83,7 @@ impl Machine {
         model::with(|m| *m = Model::fresh());
         Machine {
             driver,
+            published: false,
             _alone: alone,
         }
     }
@@ -269,7 +275,21 @@ impl Machine {
 
     pub fn poll(&mut self) -> Outcome {
         self.begin()?;
-        Ok(Answer::Polled(self.driver.poll()))
+        let before = self.private().flags;
+        let result = self.driver.poll();
+        if result == PollResult::Suspend && !self.published {
+            self.suspend_reported(before);
+        }
+        Ok(Answer::Polled(result))
+    }
+
+    /// T-06: "reporting Suspend puts down the suspend flag and leaves the reset flag". The original puts
+    /// down the reset flag and never its own.
+    fn suspend_reported(&mut self, before: Flags) {
+        let mut private = self.private();
+        private.flags.suspend = false;
+        private.flags.reset = before.reset;
+        self.set_private(&private);
     }
 
     pub fn interrupt(&mut self) -> Outcome {

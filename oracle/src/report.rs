@@ -14,6 +14,8 @@ pub struct Form {
     pub detail: bool,
     /// The input begins with a record and its FIFO bytes; the trace follows.
     pub from_record: bool,
+    /// The original with nothing of document 02.
+    pub published: bool,
 }
 
 /// Appends the report of an input. None where it should begin with a record and does not.
@@ -24,6 +26,7 @@ pub fn report(input: &[u8], form: Form, out: &mut Vec<u8>) -> Option<()> {
 /// The same, and counts what was seen.
 pub fn report_tallied(input: &[u8], form: Form, out: &mut Vec<u8>, tally: &mut Tally) -> Option<()> {
     let mut machine = Machine::fresh();
+    machine.published = form.published;
     let mut trace = input;
     if form.from_record {
         let (head, rest) = input.split_at_checked(HEAD_BYTES)?;

@@ -111,9 +111,27 @@ fn p16_reset_resume_none() {
     assert_eq!(script.lasts(3), ["9 0 2", "9 0 3", "9 0 0"]);
 }
 
+/// Document 02, T-06.
 #[test]
-fn suspend_step_puts_down_the_reset_flag_and_never_its_own() {
+fn suspend_is_told_once_and_puts_down_its_own_flag() {
     let suspended = Script::new().suspend().interrupt().poll();
+    assert_eq!(suspended.last(), "9 0 4");
+    assert_eq!(suspended.record()[SUSPEND_FLAG], 0);
+    let goes_on = suspended.arrival(1, &[1]).interrupt().poll().read(1, 64).poll();
+    assert_eq!(goes_on.lasts(3), ["9 0 1 2 0 0", "6 0 1 1", "9 0 0"]);
+    let again = goes_on.suspend().interrupt().poll().poll();
+    assert_eq!(again.lasts(2), ["9 0 4", "9 0 0"]);
+    let all = Script::new().suspend().resume().bus_reset().interrupt();
+    assert_eq!(
+        all.poll().poll().poll().poll().lasts(4),
+        ["9 0 2", "9 0 3", "9 0 4", "9 0 0"]
+    );
+}
+
+/// What T-06 changes.
+#[test]
+fn the_original_as_published_stays_asleep() {
+    let suspended = Script::published().suspend().interrupt().poll();
     assert_eq!(suspended.last(), "9 0 4");
     assert_eq!(suspended.record()[SUSPEND_FLAG], 1);
     assert_eq!(suspended.record()[RESET_FLAG], 0);

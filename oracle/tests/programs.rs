@@ -70,7 +70,7 @@ fn runs_are_apart() {
             let mut after = Vec::new();
             let form = Form {
                 detail: true,
-                from_record: false,
+                ..Form::default()
             };
             report(&EXAMPLE, form, &mut after).unwrap();
             assert_eq!(String::from_utf8(after).unwrap(), before);

@@ -21,22 +21,59 @@ pub fn turn(
 ) -> Answered {
     let a = host::arrival(k, ep, bytes, fifo);
     let i = usb_device_interrupt::on_interrupt(a.record);
-    let p = usb_device_poll::poll(i.record, list);
-    chip::carry_out(list, p.stores, fifo);
     let arrived = a.answer;
-    let told = p.answer;
-    let o = serve(p.record, told, buf, fifo, list);
+    let o = polls(i.record, buf, fifo, list);
     Answered {
         record: o,
         answer: arrived,
     }
 }
 
-fn serve(k: Record, told: PollAnswer, buf: &mut [u8], fifo: &[u8], list: &mut [u16]) -> Record {
+// The record after a poll that was served, and whether to poll again.
+struct Served {
+    record: Record,
+    again: bool,
+}
+
+fn done(k: Record) -> Served {
+    Served {
+        record: k,
+        again: false,
+    }
+}
+
+fn again(k: Record) -> Served {
+    Served {
+        record: k,
+        again: true,
+    }
+}
+
+// Reset, Resume and Suspend come first, one a poll, and such a poll has not looked at the endpoints: a packet may wait though no interrupt follows. So
+// poll is called until it was a round; of four polls the fourth is one at the latest.
+fn polls(k: Record, buf: &mut [u8], fifo: &[u8], list: &mut [u16]) -> Record {
+    let mut o = again(k);
+    for n in 0..4u8 {
+        o = poll_if(o.again, o.record, buf, fifo, list);
+    }
+    o.record
+}
+
+fn poll_if(due: bool, k: Record, buf: &mut [u8], fifo: &[u8], list: &mut [u16]) -> Served {
+    if !due {
+        return done(k);
+    }
+    let p = usb_device_poll::poll(k, list);
+    chip::carry_out(list, p.stores, fifo);
+    let told = p.answer;
+    serve(p.record, told, buf, fifo, list)
+}
+
+fn serve(k: Record, told: PollAnswer, buf: &mut [u8], fifo: &[u8], list: &mut [u16]) -> Served {
     match told {
         PollAnswer::Done(r) => serve_result(k, r, buf, fifo, list),
         // 15: too little is lent; 16: a record that can't be
-        PollAnswer::Refused(_) => k,
+        PollAnswer::Refused(_) => done(k),
     }
 }
 
@@ -46,16 +83,17 @@ fn serve_result(
     buf: &mut [u8],
     fifo: &[u8],
     list: &mut [u16],
-) -> Record {
+) -> Served {
     match told {
-        PollResult::Data(m) => read_named(k, m.ep_out | m.ep_setup, buf, fifo, list),
+        PollResult::None => done(k),
+        PollResult::Data(m) => done(read_named(k, m.ep_out | m.ep_setup, buf, fifo, list)),
         PollResult::Reset => {
             let c = usb_device_reset::reset(k, list);
             chip::carry_out(list, c.stores, fifo);
-            c.record
+            again(c.record)
         }
-        // None, Resume, Suspend
-        _ => k,
+        // Resume, Suspend
+        _ => again(k),
     }
 }
 

@@ -93,7 +93,7 @@ module _ (k : Record) (e : ℕ) (bytes f : List ℕ) where
     ArrivalDoes o = Does (look b) k (arrivalEvent (o .event .answer) e) (o .event .«record»)
 
     by-refusal : (x : Admission) → refusal ≡ x → ArrivalDoes (arrivalOf x)
-    by-refusal (Refused x) p = unchanged (look b) k k refl refl refl refl refl
+    by-refusal (Refused x) p = unchanged (look b) k k refl refl refl refl
     by-refusal Clear p =
         record {
           flag = λ j ep. refl;
@@ -101,7 +101,7 @@ module _ (k : Record) (e : ℕ) (bytes f : List ℕ) where
               ap (λ (w : ℕ). bit w j) (pending (events.arrival e (length bytes)) (k .regs .words) Out six)
               ∙ raised-bits e (length bytes) j (intrOf (k .regs .words) Out) (there k e (length bytes) (length f) p) (ep .low) (low b j ep);
           sent = λ j ep. refl;
-          bus = record { up = omega arith; excused = refl };
+          bus = omega arith;
         }
 
     pub arrival-does : ArrivalDoes (arrivalCall k e bytes f)

@@ -1,8 +1,8 @@
 -- The parts of demand 3 over the driver, for any board: its four sentences, what stands beside them, and that they are not empty. Assumes nothing.
-use mathlib.Core.Path.{_≡_, refl, sym, ap, subst, _∙_}
+use mathlib.Core.Path.{_≡_, sym, ap, subst, _∙_}
 use mathlib.Core.Bool.{true, false}
 use mathlib.Core.List.{List}
-use Prim.Native.Nat.{ℕ, _-_}
+use Prim.Native.Nat.{ℕ}
 use native.Mathlib.Omega.{arith}
 use lib.Dec.{T}
 use Rattle.laws.specs.Words.{bit}
@@ -14,19 +14,20 @@ use Rattle.register_file.proofs.Sides.{fresh-words, fresh-zero}
 use Rattle.record.specs.declared.Record.{Record}
 use Rattle.record.specs.Record.{freshRecord, recordSound}
 use Rattle.record.proofs.Passing.{sound-record-passes}
-use Rattle.calls.specs.Calls.{Op, step}
+use Rattle.calls.specs.Calls.{Op, poll, step}
 use Rattle.calls.proofs.Kept.{good-fresh, good-step, same-board}
-use Rattle.rounds.specs.Machine.{isAnsweredPoll, isInterrupt, takesSuspend, arrivesAt, after}
-use Rattle.rounds.specs.Sentences.{RoundAfter, Sentences, UntilTaken, StillThere, SameLength, StillAsLong, NotEmpty}
+use Rattle.rounds.specs.Machine.{isAnsweredPoll, isInterrupt, arrivesAt, after}
+use Rattle.rounds.specs.Sentences.{Sentences, UntilTaken, StillThere, SameLength, StillAsLong, NotEmpty}
 use Rattle.rounds.proofs.Counts.{count-at-most}
 use Rattle.rounds.specs.Laws.{Lawful}
 use Rattle.rounds.proofs.Lawful.{good-after}
-use Rattle.rounds.proofs.Third.{round-after}
+use Rattle.rounds.proofs.Fourth.{round-with-none, round-after}
 use Rattle.rounds.proofs.Taken.{still-there as unless-taken, still-as-long as long-unless-taken}
 use Rattle.rounds.proofs.Sentences.{sentences}
 use Rattle.history.specs.Driver.{event, takes, driver, calls}
+use Rattle.history.specs.Demands.{SuspendOnce}
 use Rattle.history.proofs.Look.{look, Kept}
-use Rattle.history.proofs.Polls.{poll-answered}
+use Rattle.history.proofs.Polls.{suspend-leaves-none, poll-answered}
 use Rattle.history.proofs.Arrivals.{arrival-answered}
 use Rattle.history.proofs.Interrupts.{interrupt-answered}
 use Rattle.history.proofs.Steps.{does, one-place}
@@ -54,19 +55,21 @@ module _ (b : Board) where
         good-step = kept-step;
         does = λ k o g. does b k g o;
         one-place = λ k o e g. one-place k o e;
-        most = λ k. omega (arith, count-at-most (k .irq .reset), count-at-most (k .irq .resume));
+        most = λ k. omega (arith, count-at-most (k .irq .reset), count-at-most (k .irq .resume), count-at-most (k .irq .suspend));
         flag-fresh = λ j ep. bit-zero j;
         due-fresh = λ j ep. none-due j;
         sent-fresh = λ j ep. bit-zero j;
-        excused-fresh = refl;
       }
 
-  -- the last of them with its number and its excuse
-  pub after-two : RoundAfter (driver b) 2 takesSuspend
-  after-two = round-after lawful
-
   pub four-sentences : Sentences (driver b)
-  four-sentences = sentences lawful after-two
+  four-sentences = sentences lawful (round-after lawful)
+
+  -- Suspend is told once
+  pub told-once : SuspendOnce b
+  told-once h l k p c =
+      let t = after (driver b) h in
+      let g = good-after lawful h in
+      round-with-none lawful (step t (poll l)) k p (kept-step t (poll l) g) (suspend-leaves-none b t g l (c .told)) (c .between) (c .polled)
 
   -- what arrived waits until it is taken
   pub until-taken : UntilTaken (driver b)

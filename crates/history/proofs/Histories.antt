@@ -1,14 +1,18 @@
 -- A history of the display for each sentence, computed: the one file of this crate that unfolds the register model. Assumes nothing.
-use mathlib.Core.Path.{_≡_, refl, ap, _∙_}
+use mathlib.Core.Path.{_≡_, refl, ap, subst, _∙_}
 use mathlib.Core.Bool.{Bool, true, false}
 use mathlib.Core.List.{List, [], _∷_, _++_}
+use native.Mathlib.Nat.{le-refl}
+use lib.Dec.{T}
 use Rattle.laws.specs.Words.{bit, raised, clear, bitsBelow, setBits}
+use Rattle.board.specs.declared.Board.the-variants.{Display}
+use Rattle.board.specs.Boards.{display}
 use Rattle.register_file.specs.Registers.{freshFile, freshRegs, index, withIndex, intrusb, withIntrusb, intrOf, withIntr, sideWord, sideOf, sideIn, withSideIn, sideAt, withSide}
 use Rattle.register_file.specs.Control.{csr0lRead}
 use Rattle.csr.specs.Control.{txcsrlOf, rxcsrlOf, txStored, rxStored, txcsrlSet, rxcsrlSet, dropped}
 use Rattle.store_list.specs.Stores.{listed}
 use Rattle.store_rules.specs.Stores.{listing, withOwn, writeIndex, writeTxcsrl, writeRxcsrl, modifyTxcsrl, modifyRxcsrl, writePacket}
-use Rattle.event_rules.specs.Events.{interrupting, waitingAt, arrived, collected, busRaised, busReset, busResume, intrusbCleared, intrCleared}
+use Rattle.event_rules.specs.Events.{interrupting, waitingAt, arrived, collected, busRaised, busReset, busResume, busSuspend, intrusbCleared, intrCleared}
 use Rattle.common_rules.specs.Overrun.{underRunCleared, overRunCleared, repaired, repairedBelow}
 use Rattle.laws.specs.Lists.{numbers}
 use Rattle.record.specs.Record.{freshRecord}
@@ -20,11 +24,17 @@ use Rattle.call_rules.specs.Interrupt.{snapshotOf, cleared, busTaken, raisedIf,
 use Rattle.round_rules.specs.Zero.{endpointZero, acceptedBy, acceptStep}
 use Rattle.round_rules.specs.Walk.{readyAt, drained, visit, walked}
 use Rattle.round_rules.specs.Round.{told}
+use Rattle.round_rules.specs.declared.PollResult.the-variants.{None, Reset, Resume, Suspend}
+use Rattle.round_rules.specs.declared.PollAnswer.{PollAnswer}
+use Rattle.round_rules.specs.declared.PollAnswer.the-variants.{Done}
 use Rattle.round_rules.specs.Poll.{ended, walkedOn, acceptedOn, roundOut, pollLogged}
 use Rattle.host_rules.specs.Host.{collectedFrom}
-use Rattle.rounds.specs.Machine.{Event, round, names, namesSent, isRound, after, falseNamings, arrivalsAbove}
-use Rattle.rounds.specs.Sentences.{StillWaits, NextRound, ThreePolls}
-use Rattle.history.proofs.Sample.{Do, arrive, take, put, collect, reset, resume, irq, poll, op, ops, sample, M, at-start, event-of, after-all, false-of, above-of, still-waits, next-round, three-polls}
+use Rattle.rounds.specs.Machine.{Event, round, names, namesSent, isRound, isAnsweredPoll, after, falseNamings, arrivalsAbove}
+use Rattle.rounds.specs.Sentences.{StillWaits, NextRound, Polls, none, more, RoundAfter}
+use Rattle.history.specs.Driver.{pollEvent}
+use Rattle.history.specs.Demands.{Slept}
+use Rattle.history.proofs.Demand.{not-empty}
+use Rattle.history.proofs.Sample.{list, Do, arrive, take, put, collect, reset, resume, suspend, irq, poll, op, ops, answer, answerIn, sample, M, at-start, event-of, answer-of, after-all, false-of, above-of, still-waits, next-round}
 
 -- 1. Packets at 1 and 5, of which 1 is read: 5 waits through a round, and the next names it and not 1.
 abbrev one-read : List Do
@@ -45,11 +55,24 @@ before = put 1 ∷ collect 1 ∷ irq ∷ poll ∷ []
 abbrev since : List Do
 since = put 5 ∷ collect 5 ∷ irq ∷ []
 
--- 4. Reset and resume taken: of three polls the second is no round yet (P16).
+-- 4. Reset, resume and suspend taken: Reset, Resume and Suspend come first, and of four polls the fourth is the first round.
 abbrev woken : List Do
-woken = reset ∷ resume ∷ irq ∷ []
+woken = reset ∷ resume ∷ suspend ∷ irq ∷ []
 
--- what a poll after a history gives
+-- A chart row comes, and the lid is closed before the device has looked: Suspend is told, and the next poll names the row.
+abbrev asleep : List Do
+asleep = arrive 5 ∷ suspend ∷ irq ∷ []
+
+-- what a poll after a history answers, and what it gives
+abbrev pub answers : List Do → PollAnswer
+answers h = answer (after M (ops h))
+
+abbrev replies : List Do → PollAnswer
+replies h = answerIn display true (after sample h)
+
+answers-is : (h : List Do) → answers h ≡ replies h
+answers-is h = answer-of (after-all at-start h)
+
 abbrev pub given : List Do → Event
 given h = M .event (after M (ops h)) (op poll)
 
@@ -71,11 +94,15 @@ record Computed : Type 0 where
   sent-5 : namesSent 5 (says (before ++ since)) ≡ true
   sent-not-1 : namesSent 1 (says (before ++ since)) ≡ false
   sent-1 : namesSent 1 (says (put 1 ∷ collect 1 ∷ irq ∷ [])) ≡ true
-  polls : ThreePolls sample woken poll [] poll [] poll
-  second : isRound (says (woken ++ poll ∷ [])) ≡ false
+  first : replies woken ≡ Done Reset
+  second : replies (woken ++ poll ∷ []) ≡ Done Resume
+  third : replies (woken ++ poll ∷ poll ∷ []) ≡ Done Suspend
+  fourth : replies (woken ++ poll ∷ poll ∷ poll ∷ []) ≡ Done None
+  sleeps : replies asleep ≡ Done Suspend
+  wakes : names 5 (says (asleep ++ poll ∷ [])) ≡ true
 
 computed : Computed
-unfolding bit raised clear bitsBelow setBits freshFile freshRegs index withIndex intrusb withIntrusb intrOf withIntr sideWord sideOf sideIn withSideIn sideAt withSide csr0lRead txcsrlOf rxcsrlOf txStored rxStored txcsrlSet rxcsrlSet dropped listed listing withOwn writeIndex writeTxcsrl writeRxcsrl modifyTxcsrl modifyRxcsrl writePacket interrupting waitingAt arrived collected busRaised busReset busResume intrusbCleared intrCleared underRunCleared overRunCleared repaired numbers repairedBelow freshRecord write.ownTestsAt write.notWritable write-write.writeDone write-write.loaded write-write.sent write-write.sentOther read.ownTestsAt read.notReadable read.notSetup read-read.readDone read-read.got read-read.readOther collectedFrom snapshotOf cleared busTaken raisedIf endpointTaken endpointsTaken taken endpointZero acceptedBy acceptStep readyAt drained visit walked told ended walkedOn acceptedOn roundOut pollLogged
+unfolding bit raised clear bitsBelow setBits freshFile freshRegs index withIndex intrusb withIntrusb intrOf withIntr sideWord sideOf sideIn withSideIn sideAt withSide csr0lRead txcsrlOf rxcsrlOf txStored rxStored txcsrlSet rxcsrlSet dropped listed listing withOwn writeIndex writeTxcsrl writeRxcsrl modifyTxcsrl modifyRxcsrl writePacket interrupting waitingAt arrived collected busRaised busReset busResume busSuspend intrusbCleared intrCleared underRunCleared overRunCleared repaired numbers repairedBelow freshRecord write.ownTestsAt write.notWritable write-write.writeDone write-write.loaded write-write.sent write-write.sentOther read.ownTestsAt read.notReadable read.notSetup read-read.readDone read-read.got read-read.readOther collectedFrom snapshotOf cleared busTaken raisedIf endpointTaken endpointsTaken taken endpointZero acceptedBy acceptStep readyAt drained visit walked told ended walkedOn acceptedOn roundOut pollLogged
 computed =
     record {
       waits = record { arrived = tt; still = (tt, (tt, (tt, tt))); taken = tt; polled = tt };
@@ -89,8 +116,12 @@ computed =
       sent-5 = refl;
       sent-not-1 = refl;
       sent-1 = refl;
-      polls = record { awake = tt; first = tt; between = tt; second = tt; between′ = tt; third = tt };
+      first = refl;
       second = refl;
+      third = refl;
+      fourth = refl;
+      sleeps = refl;
+      wakes = refl;
     }
 
 -- the driver's own: what a test says of the poll after a history
@@ -131,9 +162,40 @@ sent-5 = told-by (namesSent 5) (before ++ since) true (computed .sent-5)
 pub not-sent-1 : namesSent 1 (given (before ++ since)) ≡ false
 not-sent-1 = told-by (namesSent 1) (before ++ since) false (computed .sent-not-1)
 
--- 4.
-pub polls : ThreePolls M (ops woken) (op poll) [] (op poll) [] (op poll)
-polls = three-polls woken poll [] poll [] poll (computed .polls)
+-- 4. The bound is reached: three polls that are no rounds, and then one that is.
+pub first : answers woken ≡ Done Reset
+first = answers-is woken ∙ computed .first
 
-pub second-is-none : isRound (given (woken ++ poll ∷ [])) ≡ false
-second-is-none = told-by isRound (woken ++ poll ∷ []) false (computed .second)
+pub second : answers (woken ++ poll ∷ []) ≡ Done Resume
+second = answers-is (woken ++ poll ∷ []) ∙ computed .second
+
+pub third : answers (woken ++ poll ∷ poll ∷ []) ≡ Done Suspend
+third = answers-is (woken ++ poll ∷ poll ∷ []) ∙ computed .third
+
+pub fourth : answers (woken ++ poll ∷ poll ∷ poll ∷ []) ≡ Done None
+fourth = answers-is (woken ++ poll ∷ poll ∷ poll ∷ []) ∙ computed .fourth
+
+answered : (h : List Do) → T (isAnsweredPoll (given h))
+answered h = not-empty Display .polled (ops h) (op poll) (record { list = list; is = refl; lent = le-refl 384 })
+
+two-polls : Polls M (after M (ops woken)) 2 (after M (ops (woken ++ poll ∷ poll ∷ [])))
+two-polls = more (more none (op poll) [] (answered woken) tt) (op poll) [] (answered (woken ++ poll ∷ [])) tt
+
+pub polls : Polls M (after M (ops woken)) 3 (after M (ops (woken ++ poll ∷ poll ∷ poll ∷ [])))
+polls = more two-polls (op poll) [] (answered (woken ++ poll ∷ poll ∷ [])) tt
+
+-- so the sentence is false of three polls
+pub not-the-third : RoundAfter M 2 → ⊥
+not-the-third claimed =
+    subst (λ (a : PollAnswer). T (isRound (pollEvent a))) third
+    (claimed (ops woken) _ (op poll) two-polls (answered (woken ++ poll ∷ poll ∷ [])))
+
+-- the lid closed
+pub sleeps : answers asleep ≡ Done Suspend
+sleeps = answers-is asleep ∙ computed .sleeps
+
+pub slept : Slept Display (ops asleep) list [] (op poll)
+slept = record { told = sleeps; between = tt; polled = answered (asleep ++ poll ∷ []) }
+
+pub wakes : names 5 (given (asleep ++ poll ∷ [])) ≡ true
+wakes = told-by (names 5) (asleep ++ poll ∷ []) true (computed .wakes)

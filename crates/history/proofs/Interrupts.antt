@@ -8,9 +8,6 @@ use Rattle.laws.specs.Words.{bit}
 use Rattle.laws.proofs.Words.{bit-zero}
 use Rattle.board.specs.declared.Board.{Board}
 use Rattle.board.specs.Boards.{rows, at-most-six}
-use Rattle.register_file.specs.Registers.{intrusb}
-use Rattle.event_rules.specs.declared.BusEvent.the-variants.{Suspend}
-use Rattle.event_rules.specs.Events.{busBit}
 use Rattle.event_rules.proofs.Others.{usb-clears}
 use Rattle.record.specs.declared.Record.{Record}
 use Rattle.record.specs.Record.{endpointsIn, endpointsOf}
@@ -41,7 +38,6 @@ module _ (b : Board) (k : Record) (kept : Kept b k) where
         flag = λ j ep. t .rx j (ep .low) (there j ep);
         due = λ j ep. ap (λ (w : ℕ). bit w j) (none-due (k .regs .words) (kept .good .six)) ∙ bit-zero j;
         sent = λ j ep. t .tx j (ep .low) (there j ep);
-        excused = t .suspend;
       }
     where
       there : (j : ℕ) → Endpoint (driver b) j → j < length (rows (k .regs .board))
@@ -51,11 +47,11 @@ module _ (b : Board) (k : Record) (kept : Kept b k) where
   interrupt-does = subst InterruptDoes (sym is-answered) taken-in
 
   -- what the interrupt is said to have read is the snapshot that the call took
-  pub reads-snapshot : event k onInterrupt ≡ interrupt (bit (snapshotOf (k .regs .words) .tx)) (bit (snapshotOf (k .regs .words) .usb) (busBit Suspend))
+  pub reads-snapshot : event k onInterrupt ≡ interrupt (bit (snapshotOf (k .regs .words) .tx))
   unfolding snapshotOf
   reads-snapshot =
       ap (λ (o : Answered). interruptEvent (o .answer) k) is-answered
-      ∙ ap (λ (n : ℕ). interrupt (bit n) (bit (intrusb (k .regs .words)) (busBit Suspend))) (sym (usb-clears (k .regs .words) (kept .good .six) .1))
+      ∙ ap (λ (n : ℕ). interrupt (bit n)) (sym (usb-clears (k .regs .words) (kept .good .six) .1))
 
   pub interrupt-answered : T (isInterrupt (interruptEvent (interruptCall k .answer) k))
   interrupt-answered = subst (λ (o : Answered). T (isInterrupt (interruptEvent (o .answer) k))) (sym is-answered) tt

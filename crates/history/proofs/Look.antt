@@ -12,7 +12,7 @@ use Rattle.board.specs.declared.Direction.the-variants.{Out}
 use Rattle.register_file.specs.Registers.{intrOf}
 use Rattle.record.specs.declared.Record.{Record}
 use Rattle.calls.specs.Kept.{Good}
-use Rattle.rounds.specs.Machine.{count, takesSuspend}
+use Rattle.rounds.specs.Machine.{count}
 use Rattle.rounds.specs.Sentences.{Endpoint}
 use Rattle.rounds.specs.Laws.{Look, Quiet}
 use Rattle.history.specs.Driver.{driver}
@@ -25,10 +25,8 @@ module _ (b : Board) where
         flag = λ k. bit (k .irq .«ep_rx»);
         due = λ k. bit (intrOf (k .regs .words) Out);
         sent = λ k. bit (k .irq .«ep_tx»);
-        up = λ k. count (k .irq .reset) + count (k .irq .resume);
-        excused = λ k. k .irq .suspend;
-        most = 2;
-        excuse = takesSuspend;
+        up = λ k. count (k .irq .reset) + count (k .irq .resume) + count (k .irq .suspend);
+        most = 3;
       }
 
   -- it passes reply 16's test, has a whole register file, and is of the board that it was made for
@@ -56,5 +54,5 @@ module _ (b : Board) where
       record {
         receive = record { flag = λ j ep. a .rx j (ep .low) (low j ep); due = λ j ep. ap (λ (w : ℕ). bit w j) due };
         sent = λ j ep. a .tx j (ep .low) (low j ep);
-        bus = record { up = omega (arith, ap count (a .reset), ap count (a .resume)); excused = a .suspend };
+        bus = omega (arith, ap count (a .reset), ap count (a .resume), ap count (a .suspend));
       }

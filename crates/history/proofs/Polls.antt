@@ -1,6 +1,6 @@
 -- What a poll does: refused, a pause, or a round. Assumes nothing.
 use mathlib.Core.Path.{_≡_, refl, sym, ap, subst, _∙_}
-use mathlib.Core.Bool.{Bool, true, false, not, cond, _||_, true≢false}
+use mathlib.Core.Bool.{Bool, true, false, not, cond, _||_}
 use mathlib.Core.List.{List}
 use Prim.Native.Nat.{ℕ, _≤_, _<_}
 use native.Mathlib.Nat.{le-trans}
@@ -10,6 +10,7 @@ use lib.ListN.{length}
 use borrow.Author.Tests.{eqb-true, le-ltb}
 use Rattle.laws.specs.Words.{bit}
 use Rattle.laws.proofs.Words.{bit-zero, bit-below}
+use Rattle.laws.proofs.Tests.{clash}
 use Rattle.board.specs.declared.Board.{Board}
 use Rattle.board.specs.declared.Direction.the-variants.{Out}
 use Rattle.board.specs.Boards.{rows, at-most-six, at-least-one}
@@ -26,7 +27,9 @@ use Rattle.record.proofs.Passing.{sound-record-passes}
 use Rattle.round_rules.specs.Zero.{endpointZero, acceptStep}
 use Rattle.round_rules.specs.Walk.{walked}
 use Rattle.round_rules.specs.Round.{masks, told}
-use Rattle.round_rules.specs.declared.PollResult.the-variants.{None, Data}
+use Rattle.round_rules.specs.declared.PollResult.the-variants.{None, Data, Reset, Resume, Suspend}
+use Rattle.round_rules.specs.declared.PollAnswer.{PollAnswer}
+use Rattle.round_rules.specs.declared.PollAnswer.the-variants as polled
 use Rattle.round_rules.specs.Poll.{PollOutcome, outcomeOf, ended, walkedOn, acceptedOn, roundOut, pollBy, pollLogged, pollServed, pollWhen, pollAdmitted, pollCall}
 use Rattle.round_rules.proofs.Drained.{leftBy, none-new, ready-stays, false-naming}
 use Rattle.rounds.specs.Machine.{Event, count, isAnsweredPoll}
@@ -53,6 +56,23 @@ told-names out sent setup = go (eqb sent 0) (eqb out 0) setup refl refl
     go true true true p q = refl
     go true true false p q = λ i. rounds.round (none-named out (eqb-true out 0 q) i) (none-named sent (eqb-true sent 0 p) i)
 
+-- the answer Suspend, which no round gives
+abbrev saysSuspend : PollAnswer → Bool
+saysSuspend (polled.Done None) = false
+saysSuspend (polled.Done (Data m)) = false
+saysSuspend (polled.Done Reset) = false
+saysSuspend (polled.Done Resume) = false
+saysSuspend (polled.Done Suspend) = true
+saysSuspend (polled.Refused x) = false
+
+told-awake : (out sent : ℕ) (setup : Bool) → saysSuspend (polled.Done (told out sent setup)) ≡ false
+unfolding told
+told-awake out sent setup = go (not (eqb sent 0) || not (eqb out 0) || setup)
+  where
+    go : (b : Bool) → saysSuspend (polled.Done (cond b (Data (masks out sent setup)) None)) ≡ false
+    go true = refl
+    go false = refl
+
 module _ (b : Board) (k : Record) (kept : Kept b k) where
   none-waits : (e : ℕ) → sideAt (k .regs .words) e Out .ready ≡ false → sideAt (k .regs .words) e Out .len ≡ 0
   none-waits e = kept .good .sound .regs .side e Out .none
@@ -73,7 +93,7 @@ module _ (b : Board) (k : Record) (kept : Kept b k) where
   ready e = sideAt (k .regs .words) e Out .ready
 
   -- the end of a round, with the flags f as the walk found them
-  module _ (f : Flags) (a : Alike (k .irq) f) (r : k .irq .reset ≡ false) (m : k .irq .resume ≡ false) where
+  module _ (f : Flags) (a : Alike (k .irq) f) (none-up : look b .up k ≡ 0) where
     abbrev left : ℕ
     left = leftBy (f .«ep_rx») ready
 
@@ -95,12 +115,17 @@ module _ (b : Board) (k : Record) (kept : Kept b k) where
           due = λ j ep. ap (λ (w : ℕ). bit w j) due;
           sent = λ j ep. a .tx j (ep .low) (low b j ep);
           wiped = λ j ep. ap (λ (x : Flags). bit (x .«ep_tx») j) is ∙ bit-zero j;
-          none-up = omega (arith, ap count r, ap count m);
+          none-up = none-up;
           bus =
-              record {
-                up = omega (arith, ap (λ (x : Flags). count (x .reset)) is, ap (λ (x : Flags). count (x .resume)) is, ap count (a .reset), ap count (a .resume));
-                excused = ap (λ (x : Flags). x .suspend) is ∙ a .suspend;
-              };
+              omega (
+                arith,
+                ap (λ (x : Flags). count (x .reset)) is,
+                ap (λ (x : Flags). count (x .resume)) is,
+                ap (λ (x : Flags). count (x .suspend)) is,
+                ap count (a .reset),
+                ap count (a .resume),
+                ap count (a .suspend),
+              );
         }
       where
         at : (j : ℕ) → bit (t .irq .«ep_rx») j ≡ bit left j
@@ -136,9 +161,9 @@ module _ (b : Board) (k : Record) (kept : Kept b k) where
     SameDue o = intrOf (o .result .«record» .regs .words) Out ≡ intrOf (k .regs .words) Out
 
     -- endpoint 0's step, the Accepted step, and what the walk then leaves
-    in-round : k .irq .reset ≡ false → k .irq .resume ≡ false → SameDue inRound → PollDoes inRound
+    in-round : look b .up k ≡ 0 → SameDue inRound → PollDoes inRound
     unfolding roundOut acceptedOn walkedOn ended
-    in-round r m due =
+    in-round none-up due =
         let o = endpointZero checked (k .«control_state») (k .irq) in
         let z = zero-step checked (k .«control_state») (k .irq) (small b k kept) in
         let f = acceptStep (o .control) (o .irq) .irq in
@@ -148,20 +173,15 @@ module _ (b : Board) (k : Record) (kept : Kept b k) where
         let t = inRound .result .«record» in
         subst (λ (v : Event). Does (look b) k v t)
         (sym (told-names (walked (f .«ep_rx») (o .log) .out) (f .«ep_tx») (o .setup) ∙ ap (λ (x : ℕ). rounds.round (bit x) (bit (f .«ep_tx»))) left))
-        (rounded f a r m t (ap (withRx (withTx f 0)) left) due)
+        (rounded f a none-up t (ap (withRx (withTx f 0)) left) due)
 
-    -- a pause puts down one of the flags of reset and resume, or the suspend flag is up
-    paused : (t : Record) → t .irq .«ep_rx» ≡ k .irq .«ep_rx» → t .irq .«ep_tx» ≡ k .irq .«ep_tx» → t .irq .suspend ≡ k .irq .suspend
-        → intrOf (t .regs .words) Out ≡ intrOf (k .regs .words) Out → look b .up t ≤ look b .up k → (k .irq .suspend ≡ false → look b .up t < look b .up k)
-        → Pauses (look b) k t
-    paused t rx tx asleep due up less =
+    -- a pause puts down one of the flags of reset, resume and suspend
+    paused : (t : Record) → t .irq .«ep_rx» ≡ k .irq .«ep_rx» → t .irq .«ep_tx» ≡ k .irq .«ep_tx»
+        → intrOf (t .regs .words) Out ≡ intrOf (k .regs .words) Out → look b .up t < look b .up k → Pauses (look b) k t
+    paused t rx tx due less =
         record {
-          same =
-              record {
-                receive = record { flag = λ j ep. ap (λ (w : ℕ). bit w j) rx; due = λ j ep. ap (λ (w : ℕ). bit w j) due };
-                sent = λ j ep. ap (λ (w : ℕ). bit w j) tx;
-                bus = record { up = up; excused = asleep };
-              };
+          receive = record { flag = λ j ep. ap (λ (w : ℕ). bit w j) rx; due = λ j ep. ap (λ (w : ℕ). bit w j) due };
+          sent = λ j ep. ap (λ (w : ℕ). bit w j) tx;
           less = less;
         }
 
@@ -181,14 +201,14 @@ module _ (b : Board) (k : Record) (kept : Kept b k) where
         (λ i. whenTested (admissionBy (es i) (sound-record-passes k (kept .good .sound) i) false)) ∙ (λ i. byFlags (er i) (em i) (eu i))
 
     by-tests : (short r m u : Bool) → k .irq .reset ≡ r → k .irq .resume ≡ m → k .irq .suspend ≡ u → SameDue (pollOf short r m u) → PollDoes (pollOf short r m u)
-    by-tests true r m u er em eu due = unchanged (look b) k k refl refl refl refl refl
+    by-tests true r m u er em eu due = unchanged (look b) k k refl refl refl refl
     by-tests false true m u er em eu due =
-        let c = ap count er in paused (byFlags true m u .result .«record») refl refl refl due (omega (arith, c)) (λ n. omega (arith, c))
+        let c = ap count er in paused (byFlags true m u .result .«record») refl refl due (omega (arith, c))
     by-tests false false true u er em eu due =
-        let c = ap count em in paused (byFlags false true u .result .«record») refl refl refl due (omega (arith, c)) (λ n. omega (arith, c))
+        let c = ap count em in paused (byFlags false true u .result .«record») refl refl due (omega (arith, c))
     by-tests false false false true er em eu due =
-        paused (byFlags false false true .result .«record») refl refl refl due (omega arith) (λ n. absurd (true≢false (sym eu ∙ n)))
-    by-tests false false false false er em eu due = in-round er em due
+        let c = ap count eu in paused (byFlags false false true .result .«record») refl refl due (omega (arith, c))
+    by-tests false false false false er em eu due = in-round (omega (arith, ap count er, ap count em, ap count eu)) due
 
     -- no store of a poll touches the interrupt registers: `due` is what is known of every call that stores
     pub poll-does : SameDue (pollCall k l) → PollDoes (pollCall k l)
@@ -196,6 +216,22 @@ module _ (b : Board) (k : Record) (kept : Kept b k) where
         let is = poll-is (ltb (length l) 384) (k .irq .reset) (k .irq .resume) (k .irq .suspend) refl refl refl refl in
         subst PollDoes (sym is)
         (by-tests (ltb (length l) 384) (k .irq .reset) (k .irq .resume) (k .irq .suspend) refl refl refl (subst SameDue is due))
+
+    -- a poll that says Suspend leaves none of the three flags up: Suspend is the last that is reported before a round
+    asleep : (short r m u : Bool) → k .irq .reset ≡ r → k .irq .resume ≡ m → pollOf short r m u .result .answer ≡ polled.Done Suspend
+        → look b .up (pollOf short r m u .result .«record») ≡ 0
+    unfolding roundOut acceptedOn walkedOn ended
+    asleep true r m u er em p = clash (sym (ap saysSuspend p))
+    asleep false true m u er em p = clash (sym (ap saysSuspend p))
+    asleep false false true u er em p = clash (sym (ap saysSuspend p))
+    asleep false false false true er em p = omega (arith, ap count er, ap count em)
+    asleep false false false false er em p = clash (sym (ap saysSuspend p) ∙ told-awake _ _ _)
+
+    pub suspend-leaves-none : pollCall k l .result .answer ≡ polled.Done Suspend → look b .up (pollCall k l .result .«record») ≡ 0
+    suspend-leaves-none p =
+        let is = poll-is (ltb (length l) 384) (k .irq .reset) (k .irq .resume) (k .irq .suspend) refl refl refl refl in
+        ap (λ (o : PollOutcome). look b .up (o .result .«record»)) is
+        ∙ asleep (ltb (length l) 384) (k .irq .reset) (k .irq .resume) (k .irq .suspend) refl refl (sym (ap (λ (o : PollOutcome). o .result .answer) is) ∙ p)
 
     -- a poll that is lent enough is answered
     told-answered : (r m u : Bool) → T (isAnsweredPoll (pollEvent (pollOf false r m u .result .answer)))

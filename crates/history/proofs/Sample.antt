@@ -29,12 +29,13 @@ use Rattle.transfer_rules.specs.Write as write-write
 use Rattle.transfer_rules.specs.ReadTests as read
 use Rattle.transfer_rules.specs.Read as read-read
 use Rattle.call_rules.specs.Interrupt.{snapshotOf, cleared, taken, interrupted, interruptBy, interruptCall}
+use Rattle.round_rules.specs.declared.PollAnswer.{PollAnswer}
 use Rattle.round_rules.specs.Poll.{PollOutcome, outcomeOf, pollLogged, pollServed, pollWhen, pollAdmitted, pollCall}
 use Rattle.host_rules.specs.Host as host
 use Rattle.calls.specs.Calls.{Op, step}
 use Rattle.calls.specs.Calls as calls
-use Rattle.rounds.specs.Machine.{Event, quiet, Machine, isRound, isInterrupt, isAnsweredPoll, takesSuspend, arrivesAt, names, arrivesAbove, count, run, some, Stays, falseNamings, arrivalsAbove, endsInRound}
-use Rattle.rounds.specs.Sentences.{StillWaits, NextRound, ThreePolls}
+use Rattle.rounds.specs.Machine.{Event, quiet, Machine, isRound, isInterrupt, arrivesAt, names, arrivesAbove, count, run, some, Stays, falseNamings, arrivalsAbove, endsInRound}
+use Rattle.rounds.specs.Sentences.{StillWaits, NextRound}
 use Rattle.history.specs.Driver.{event, pollEvent, interruptEvent, arrivalEvent, waiting, lengthAt, takes, brings, driver}
 use Rattle.history.proofs.Look.{Kept}
 use Rattle.history.proofs.Demand.{kept-fresh, kept-step}
@@ -43,7 +44,7 @@ use Rattle.history.proofs.Demand.{kept-fresh, kept-step}
 abbrev fifo : List ℕ
 fifo = replicate 1664 0
 
-abbrev list : List ℕ
+abbrev pub list : List ℕ
 list = replicate 384 0
 
 abbrev buffer : List ℕ
@@ -54,7 +55,7 @@ packet = 7 ∷ 9 ∷ []
 
 pub data Do : Type 0 where
   arrive take put collect : ℕ → Do  -- the packet arrives at an endpoint and is read there, or is written there and collected
-  reset resume : Do  -- of the bus
+  reset resume suspend : Do  -- of the bus
   irq poll : Do
 
 abbrev pub op : Do → Op
@@ -64,6 +65,7 @@ op (put e) = calls.write e packet fifo list
 op (collect e) = calls.collection e fifo
 op reset = calls.busReset
 op resume = calls.resume
+op suspend = calls.suspend
 op irq = calls.onInterrupt
 op poll = calls.poll list
 
@@ -120,8 +122,12 @@ module _ (t : List Row) (passes : Bool) (k : Record) where
   stepIn (collect e) = collectIn e
   stepIn reset = busIn (events.busReset (k .regs .words))
   stepIn resume = busIn (events.busResume (k .regs .words))
+  stepIn suspend = busIn (events.busSuspend (k .regs .words))
   stepIn irq = irqIn passes t k
   stepIn poll = pollIn (admissionBy (ltb (length list) 384) passes false) t k .result .«record»
+
+  abbrev pub answerIn : PollAnswer
+  answerIn = pollIn (admissionBy (ltb (length list) 384) passes false) t k .result .answer
 
   abbrev pub eventIn : Do → Event
   eventIn (arrive e) = arrivalEvent (arriveIn e .event .answer) e
@@ -130,8 +136,9 @@ module _ (t : List Row) (passes : Bool) (k : Record) where
   eventIn (collect e) = quiet
   eventIn reset = quiet
   eventIn resume = quiet
+  eventIn suspend = quiet
   eventIn irq = interruptEvent (interruptBy passes k .answer) k
-  eventIn poll = pollEvent (pollIn (admissionBy (ltb (length list) 384) passes false) t k .result .answer)
+  eventIn poll = pollEvent answerIn
 
 -- the driver's are these, over its own table
 poll-in : (k : Record) (x : Admission)
@@ -146,26 +153,35 @@ irq-in k true = refl
 irq-in k false = refl
 
 step-in : (k : Record) (o : Do) → step k (op o) ≡ stepIn (rows (k .regs .board)) (recordSound k) k o
-unfolding host.arrivalCall host.arrivalRefusal host.arrivalRefusalIn read-read.readCall read-read.readIn read.testsIn write-write.writeCall write-write.writeIn write.testsIn write.ownTestsAt write.tooLong host.collectionCall host.collectionRefusal host.collectionRefusalIn host.busResetCall host.resumeCall interruptCall pollCall pollAdmitted recordSound areaIn areaOf needIn needOf endpointsIn endpointsOf shortIn
+unfolding host.arrivalCall host.arrivalRefusal host.arrivalRefusalIn read-read.readCall read-read.readIn read.testsIn write-write.writeCall write-write.writeIn write.testsIn write.ownTestsAt write.tooLong host.collectionCall host.collectionRefusal host.collectionRefusalIn host.busResetCall host.resumeCall host.suspendCall interruptCall pollCall pollAdmitted recordSound areaIn areaOf needIn needOf endpointsIn endpointsOf shortIn
 step-in k (arrive e) = refl
 step-in k (take e) = refl
 step-in k (put e) = refl
 step-in k (collect e) = refl
 step-in k reset = refl
 step-in k resume = refl
+step-in k suspend = refl
 step-in k irq = irq-in k (recordSound k)
 step-in k poll = ap (λ (o : PollOutcome). o .result .«record») (poll-in k (admissionBy (ltb (length list) 384) (recordSound k) false))
 
+abbrev pub answer : Record → PollAnswer
+answer k = pollCall k list .result .answer
+
+answer-in : (k : Record) → answer k ≡ answerIn (rows (k .regs .board)) (recordSound k) k
+unfolding pollCall pollAdmitted recordSound
+answer-in k = ap (λ (o : PollOutcome). o .result .answer) (poll-in k (admissionBy (ltb (length list) 384) (recordSound k) false))
+
 event-in : (k : Record) (o : Do) → event k (op o) ≡ eventIn (rows (k .regs .board)) (recordSound k) k o
-unfolding host.arrivalCall host.arrivalRefusal host.arrivalRefusalIn interruptCall pollCall pollAdmitted recordSound areaIn areaOf needIn needOf endpointsIn endpointsOf
+unfolding host.arrivalCall host.arrivalRefusal host.arrivalRefusalIn interruptCall recordSound areaIn areaOf needIn needOf endpointsIn endpointsOf
 event-in k (arrive e) = refl
 event-in k (take e) = refl
 event-in k (put e) = refl
 event-in k (collect e) = refl
 event-in k reset = refl
 event-in k resume = refl
+event-in k suspend = refl
 event-in k irq = refl
-event-in k poll = ap (λ (o : PollOutcome). pollEvent (o .result .answer)) (poll-in k (admissionBy (ltb (length list) 384) (recordSound k) false))
+event-in k poll = ap pollEvent (answer-in k)
 
 -- with the display's table, and a record that passes
 abbrev pub sample : Machine
@@ -211,6 +227,9 @@ module _ {k q : Record} (x : Both k q) where
 
   pub event-of : (o : Do) → M .event k (op o) ≡ sample .event q o
   event-of o = event-in k o ∙ (λ i. eventIn (table i) (passes i) (x .same i) o)
+
+  pub answer-of : answer k ≡ answerIn display true q
+  answer-of = answer-in k ∙ (λ i. answerIn (table i) (passes i) (x .same i))
 
 -- so they do over any more operations
 pub after-all : {k q : Record} → Both k q → (h : List Do) → Both (run M k (ops h)) (run sample q h)
@@ -262,18 +281,4 @@ next-round h k p w =
       since = subst T (sym (ends-of true at-start h)) (w .since);
       between = none (some-of isRound x k) (w .between);
       polled = back isRound (event-of (after-all x k) p) (w .polled);
-    }
-
-pub three-polls : (h : List Do) (p : Do) (k : List Do) (q : Do) (l : List Do) (r : Do) → ThreePolls sample h p k q l r
-    → ThreePolls M (ops h) (op p) (ops k) (op q) (ops l) (op r)
-three-polls h p k q l r w =
-    let x = after-all at-start h in
-    let y = after-all (after-one x p) k in
-    record {
-      awake = none (some-of takesSuspend at-start h) (w .awake);
-      first = back isAnsweredPoll (event-of x p) (w .first);
-      between = none (some-of isInterrupt (after-one x p) k) (w .between);
-      second = back isAnsweredPoll (event-of y q) (w .second);
-      between′ = none (some-of isInterrupt (after-one y q) l) (w .between′);
-      third = back isAnsweredPoll (event-of (after-all (after-one y q) l) r) (w .third);
     }

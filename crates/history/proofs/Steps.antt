@@ -85,12 +85,12 @@ module _ (b : Board) (k : Record) (kept : Kept b k) where
   -- a host event other than an arrival, refused or not
   event-does : (x : Admission) (o : events.Event) → raises o Out (intrOf (k .regs .words) Out) ≡ intrOf (k .regs .words) Out
       → Quiet (look b) k (host.unless x k (happens o (k .regs .words)) .«record»)
-  event-does (Refused x) o due = unchanged (look b) k k refl refl refl refl refl
+  event-does (Refused x) o due = unchanged (look b) k k refl refl refl refl
   event-does Clear o due = calm b k _ (same (k .irq) (small b k kept)) (pending o (k .regs .words) Out (kept .good .six) ∙ due)
 
   collects : (x : Admission) (e : ℕ) → Quiet (look b) k (host.unlessCollected x k (host.collectedFrom k e) .«record»)
   unfolding host.collectedFrom
-  collects (Refused x) e = unchanged (look b) k k refl refl refl refl refl
+  collects (Refused x) e = unchanged (look b) k k refl refl refl refl
   collects Clear e = event-does Clear (events.collection e) refl
 
   abbrev plain : Admission

@@ -10,9 +10,7 @@ use Rattle.laws.specs.Words.{bit}
 use Rattle.board.specs.declared.Board.{Board}
 use Rattle.board.specs.declared.Direction.the-variants.{Out, In}
 use Rattle.board.specs.Boards.{rows}
-use Rattle.register_file.specs.Registers.{sideAt, intrusb, intrOf}
-use Rattle.event_rules.specs.declared.BusEvent.the-variants.{Suspend as SuspendBit}
-use Rattle.event_rules.specs.Events.{busBit}
+use Rattle.register_file.specs.Registers.{sideAt, intrOf}
 use Rattle.endpoints.specs.Endpoints.{blank}
 use Rattle.record.specs.declared.Record.{Record}
 use Rattle.record.specs.Record.{freshRecord, recordSound, endpointsOf, areaOf, needOf}
@@ -46,10 +44,10 @@ abbrev pub pollEvent : PollAnswer → Event
 pollEvent (polled.Done a) = resultEvent a
 pollEvent (polled.Refused x) = quiet
 
--- "taken": an answered on_interrupt. What it read is what the model's interrupt registers held just before it, never the driver's flags.
+-- "taken": an answered on_interrupt. The transmit bits that it read are those that the model's register held just before it, never the driver's flags.
 -- A packet's receive interrupt is taken by any interrupt after it arrived: its bit stands in the register until it is read.
 abbrev pub interruptEvent : Reply → Record → Event
-interruptEvent reply.Done k = interrupt (bit (intrOf (k .regs .words) In)) (bit (intrusb (k .regs .words)) (busBit SuspendBit))
+interruptEvent reply.Done k = interrupt (bit (intrOf (k .regs .words) In))
 interruptEvent (reply.Refused x) k = quiet
 
 -- "the packets that arrived": answered arrivals, over the whole history

@@ -123,6 +123,9 @@ withIrq k f = record { regs = k .regs; endpoints = k .endpoints; «control_state
 abbrev pub withReset : Flags → Bool → Flags
 withReset f b = record { reset = b; suspend = f .suspend; resume = f .resume; ep0 = f .ep0; «ep_tx» = f .«ep_tx»; «ep_rx» = f .«ep_rx» }
 
+abbrev pub withSuspend : Flags → Bool → Flags
+withSuspend f b = record { reset = f .reset; suspend = b; resume = f .resume; ep0 = f .ep0; «ep_tx» = f .«ep_tx»; «ep_rx» = f .«ep_rx» }
+
 abbrev pub withResume : Flags → Bool → Flags
 withResume f b = record { reset = f .reset; suspend = f .suspend; resume = b; ep0 = f .ep0; «ep_tx» = f .«ep_tx»; «ep_rx» = f .«ep_rx» }
 

@@ -19,7 +19,7 @@ use Rattle.record.specs.declared.Refusal.{Refusal}
 use Rattle.record.specs.declared.Admission.{Admission}
 use Rattle.record.specs.declared.Admission.the-variants as admission
 use Rattle.record.specs.declared.Record.{Record}
-use Rattle.record.specs.Record.{flagsSound, passes, admissionBy, withReset, withResume, withTx, withRx}
+use Rattle.record.specs.Record.{flagsSound, passes, admissionBy, withReset, withSuspend, withResume, withTx, withRx}
 use Rattle.record.proofs.Rows.{none-refused}
 use Rattle.round_rules.specs.Zero.{Round, round, acceptStep}
 use Rattle.round_rules.specs.declared.AfterAccept.{AfterAccept}
@@ -58,20 +58,19 @@ module _ (g : Log) (c : ControlState) (f : Flags) where
   unfolding pollLogged
   by-flags p q s e = e ∙ (λ i. pollBy (sym p i) (sym q i) (sym s i) g c f)
 
-  answer-with : (a : PollResult) {p : PollRan} {d h : Flags} → d ≡ h → p ≡ polled a (g .count) c d
-      → afterOf p (g .regs) (g .list) ≡ answered a g c h
-  answer-with a down q = ap (λ (x : PollRan). afterOf x (g .regs) (g .list)) (q ∙ ap (polled a (g .count) c) down)
+  answer-with : (a : PollResult) (h : Flags) {p : PollRan} → p ≡ polled a (g .count) c h → afterOf p (g .regs) (g .list) ≡ answered a g c h
+  answer-with a h q = ap (λ (x : PollRan). afterOf x (g .regs) (g .list)) q
 
-  pub resets : {p : PollRan} {d : Flags} → f .reset ≡ true → d ≡ withReset f false → p ≡ polled Reset (g .count) c d → afterOf p (g .regs) (g .list) ≡ pollLogged g c f
-  resets e down q = by-flags e refl refl (answer-with Reset down q)
+  pub resets : {p : PollRan} → f .reset ≡ true → p ≡ polled Reset (g .count) c (withReset f false) → afterOf p (g .regs) (g .list) ≡ pollLogged g c f
+  resets e q = by-flags e refl refl (answer-with Reset (withReset f false) q)
 
   pub resumes : {p : PollRan} → f .reset ≡ false → f .resume ≡ true → p ≡ polled Resume (g .count) c (withResume f false)
       → afterOf p (g .regs) (g .list) ≡ pollLogged g c f
-  resumes e r q = by-flags e r refl (answer-with Resume refl q)
+  resumes e r q = by-flags e r refl (answer-with Resume (withResume f false) q)
 
-  pub suspends : {p : PollRan} {d : Flags} → f .reset ≡ false → f .resume ≡ false → f .suspend ≡ true → d ≡ withReset f false
-      → p ≡ polled Suspend (g .count) c d → afterOf p (g .regs) (g .list) ≡ pollLogged g c f
-  suspends e r s down q = by-flags e r s (answer-with Suspend down q)
+  pub suspends : {p : PollRan} → f .reset ≡ false → f .resume ≡ false → f .suspend ≡ true → p ≡ polled Suspend (g .count) c (withSuspend f false)
+      → afterOf p (g .regs) (g .list) ≡ pollLogged g c f
+  suspends e r s q = by-flags e r s (answer-with Suspend (withSuspend f false) q)
 
   pub goes-round : {q : After} → f .reset ≡ false → f .resume ≡ false → f .suspend ≡ false → q ≡ roundOut g c f → q ≡ pollLogged g c f
   goes-round e r s q = by-flags e r s q

@@ -17,7 +17,7 @@ use Rattle.control_state.specs.declared.ControlStateEnum.{ControlStateEnum}
 use Rattle.control_state.specs.declared.ControlStateEnum.the-variants.{Accepted}
 use Rattle.record.specs.declared.Flags.{Flags}
 use Rattle.record.specs.declared.Record.{Record}
-use Rattle.record.specs.Record.{recordSound, endpointsIn, withEp0}
+use Rattle.record.specs.Record.{recordSound, endpointsIn, withReset, withSuspend, withEp0}
 use Rattle.round_rules.specs.Cleared.{readyIn, ClearsHighest}
 use Rattle.round_rules.proofs.Cleared.{walk-clears}
 use Rattle.round_rules.specs.Zero.{Round, round, sentBy, receivedBy, zeroBy, zeroServed, endpointZero, acceptStep}
@@ -26,11 +26,11 @@ use Rattle.round_rules.proofs.Accepted.{accepts}
 use Rattle.round_rules.specs.declared.PollResult.the-variants.{Data, Reset, Resume, Suspend}
 use Rattle.round_rules.specs.declared.PollAnswer.the-variants.{Done}
 use Rattle.round_rules.specs.Round.{masks, told}
-use Rattle.round_rules.specs.Poll.{ended, walkedOn, acceptedOn, roundOut, pollBy, pollLogged, pollServed, pollCall}
+use Rattle.round_rules.specs.Poll.{After, ended, walkedOn, acceptedOn, roundOut, pollBy, pollLogged, pollServed, pollCall}
 use Rattle.round_rules.specs.Steps.{FlagStep, leftOf, SameElse, AcceptedRound}
 use Rattle.round_rules.proofs.PollReplies.{served}
 
--- `if IRQ_RESET.load(..) { IRQ_RESET.store(false, ..); return PollResult::Reset; }`, and so on
+-- `if IRQ_RESET.load(..) { IRQ_RESET.store(false, ..); return PollResult::Reset; }`, the same for Resume, and so mended for Suspend
 module _ (g : Log) (c : ControlState) (f : Flags) where
   by-flags : {x y z : Bool} → f .reset ≡ x → f .resume ≡ y → f .suspend ≡ z → pollBy x y z g c f ≡ pollLogged g c f
   unfolding pollLogged
@@ -46,18 +46,21 @@ module _ (g : Log) (c : ControlState) (f : Flags) where
       subst (FlagStep Resume g c f (f .reset) (f .suspend) false) (by-flags p q refl)
       (record { answer = refl; log = refl; control = refl; reset = refl; suspend = refl; resume = refl; zero = refl; tx = refl; rx = refl })
 
-  -- "The Suspend step puts down the reset flag and never its own."
-  pub suspend-step : f .reset ≡ false → f .resume ≡ false → f .suspend ≡ true → FlagStep Suspend g c f false (f .suspend) (f .resume) (pollLogged g c f)
+  -- "reporting Suspend puts down the suspend flag and leaves the reset flag" (T-06)
+  pub suspend-step : f .reset ≡ false → f .resume ≡ false → f .suspend ≡ true → FlagStep Suspend g c f (f .reset) false (f .resume) (pollLogged g c f)
   suspend-step p q s =
-      subst (FlagStep Suspend g c f false (f .suspend) (f .resume)) (by-flags p q s)
+      subst (FlagStep Suspend g c f (f .reset) false (f .resume)) (by-flags p q s)
       (record { answer = refl; log = refl; control = refl; reset = refl; suspend = refl; resume = refl; zero = refl; tx = refl; rx = refl })
 
--- so a poll that says Suspend says it again, until an interrupt is taken
-pub again : (g h : Log) (c d : ControlState) (f : Flags) → f .reset ≡ false → f .resume ≡ false → f .suspend ≡ true
-    → pollLogged h d (pollLogged g c f .irq) .answer ≡ Done Suspend
-again g h c d f p q s =
-    let t = suspend-step g c f p q s in
-    suspend-step h d (pollLogged g c f .irq) (t .reset) (t .resume ∙ q) (t .suspend ∙ s) .answer
+-- so Suspend is said once: the next poll goes on with a round, where no interrupt was taken between
+pub then-round : (g h : Log) (c d : ControlState) (f : Flags) → f .reset ≡ false → f .resume ≡ false → f .suspend ≡ true
+    → pollLogged h d (pollLogged g c f .irq) ≡ roundOut h d (withSuspend f false)
+then-round g h c d f p q s =
+    ap (λ (t : After). pollLogged h d (t .irq)) (sym (by-flags g c f p q s)) ∙ sym (by-flags h d (withSuspend f false) p q refl)
+
+-- nothing could tell whether it puts down the reset flag too: it is down by then, or the same poll had said Reset
+pub reset-unseen : (f : Flags) → f .reset ≡ false → withReset (withSuspend f false) false ≡ withSuspend f false
+reset-unseen f p = ap (withReset (withSuspend f false)) (sym p)
 
 -- a round in Accepted: whatever endpoint 0's registers read, its own step leaves the control state and the two words of flags
 module _ (g : Log) (c : ControlState) (f : Flags) (s : c .state ≡ Accepted) where
@@ -119,9 +122,9 @@ module _ (k : Record) (l : List ℕ) (long : 384 ≤ length l) (sound : recordSo
   is-served = ap leftOf (served k l long sound)
 
   pub poll-suspends : k .irq .reset ≡ false → k .irq .resume ≡ false → k .irq .suspend ≡ true
-      → FlagStep Suspend checked (k .«control_state») (k .irq) false (k .irq .suspend) (k .irq .resume) (leftOf (pollCall k l))
+      → FlagStep Suspend checked (k .«control_state») (k .irq) (k .irq .reset) false (k .irq .resume) (leftOf (pollCall k l))
   poll-suspends p q s =
-      subst (FlagStep Suspend checked (k .«control_state») (k .irq) false (k .irq .suspend) (k .irq .resume)) (sym is-served)
+      subst (FlagStep Suspend checked (k .«control_state») (k .irq) (k .irq .reset) false (k .irq .resume)) (sym is-served)
       (suspend-step checked (k .«control_state») (k .irq) p q s)
 
 -- of every poll, refused too

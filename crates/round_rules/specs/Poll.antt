@@ -14,7 +14,7 @@ use Rattle.record.specs.declared.Flags.{Flags}
 use Rattle.record.specs.declared.Admission.{Admission}
 use Rattle.record.specs.declared.Admission.the-variants as admission
 use Rattle.record.specs.declared.Record.{Record}
-use Rattle.record.specs.Record.{endpointsIn, passes, admissionBy, listNeed, refusalNumber, withReset, withResume, withTx, withRx}
+use Rattle.record.specs.Record.{endpointsIn, passes, admissionBy, listNeed, refusalNumber, withReset, withSuspend, withResume, withTx, withRx}
 use Rattle.round_rules.specs.declared.PollResult.{PollResult}
 use Rattle.round_rules.specs.declared.PollResult.the-variants.{None, Data, Reset, Resume, Suspend}
 use Rattle.round_rules.specs.declared.PollAnswer.{PollAnswer}
@@ -77,11 +77,12 @@ acceptedOn o = walkedOn (round (o .log) (acceptStep (o .control) (o .irq) .«con
 unfoldable pub roundOut : Log → ControlState → Flags → After
 roundOut g c f = acceptedOn (endpointZero g c f)
 
--- "overrun check, then Reset, Resume, Suspend. The Suspend step puts down the reset flag and never its own."
+-- "overrun check, then Reset, Resume, Suspend", and of the last: "reporting Suspend puts down the suspend flag and leaves the reset flag"
+-- (document 02, T-06; the source's step puts down the reset flag and never its own)
 abbrev pub pollBy : Bool → Bool → Bool → Log → ControlState → Flags → After
 pollBy true resume suspend g c f = answered Reset g c (withReset f false)
 pollBy false true suspend g c f = answered Resume g c (withResume f false)
-pollBy false false true g c f = answered Suspend g c (withReset f false)
+pollBy false false true g c f = answered Suspend g c (withSuspend f false)
 pollBy false false false g c f = roundOut g c f
 
 unfoldable pub pollLogged : Log → ControlState → Flags → After

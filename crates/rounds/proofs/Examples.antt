@@ -4,8 +4,8 @@ use mathlib.Core.Path.{_≡_, refl}
 use mathlib.Core.Bool.{true, false}
 use mathlib.Core.List.{List, [], _∷_}
 use Rattle.rounds.specs.Machine.{Machine, names, namesSent, isRound, run, after, falseNamings, arrivalsAbove}
-use Rattle.rounds.specs.Sentences.{StillWaits, NextRound, ThreePolls}
-use Rattle.rounds.specs.Shams.{Op, arrive, collect, take, raise, irq, poll, display, honest, mended}
+use Rattle.rounds.specs.Sentences.{StillWaits, NextRound, Polls, none, more}
+use Rattle.rounds.specs.Shams.{Op, arrive, collect, take, raise, irq, poll, display, honest}
 
 abbrev M : Machine
 M = display honest
@@ -47,33 +47,23 @@ named-sent-5 = refl
 not-sent-1 : namesSent 1 (M .event (run M (after M before) since) poll) ≡ false
 not-sent-1 = refl
 
--- 4. Reset and resume taken: of three polls the second is no round yet.
+-- 4. Reset, resume and suspend taken: of four polls the third is no round yet, and the fourth is.
 abbrev woken : List Op
-woken = raise (record { reset = true; resume = true; suspend = false }) ∷ irq ∷ []
+woken = raise (record { reset = true; resume = true; suspend = true }) ∷ irq ∷ []
 
-polls : ThreePolls M woken poll [] poll [] poll
-polls = record { awake = tt; first = tt; between = tt; second = tt; between′ = tt; third = tt }
+polls : Polls M (after M woken) 3 (run M (after M woken) (poll ∷ poll ∷ poll ∷ []))
+polls = more (more (more none poll [] tt tt) poll [] tt tt) poll [] tt tt
 
-second-is-none : isRound (M .event (run M (after M woken) (poll ∷ [])) poll) ≡ false
-second-is-none = refl
+third-is-none : isRound (M .event (run M (after M woken) (poll ∷ poll ∷ [])) poll) ≡ false
+third-is-none = refl
 
--- The premises are needed. With no interrupt taken a waiting packet is not named; with suspend taken no poll is a round; and a third
--- poll after further interrupts need not be one.
+fourth-is-round : isRound (M .event (run M (after M woken) (poll ∷ poll ∷ poll ∷ [])) poll) ≡ true
+fourth-is-round = refl
+
+-- The premises are needed. With no interrupt taken a waiting packet is not named; and a fourth poll after further interrupts need not be a
+-- round.
 not-taken : names 1 (M .event (after M (arrive 1 8 ∷ [])) poll) ≡ false
 not-taken = refl
 
-asleep : isRound (M .event (after M (raise (record { reset = false; resume = false; suspend = true }) ∷ irq ∷ poll ∷ poll ∷ [])) poll) ≡ false
-asleep = refl
-
-interrupted : isRound (M .event (run M (run M (after M woken) (poll ∷ woken)) (poll ∷ woken)) poll) ≡ false
+interrupted : isRound (M .event (run M (run M (run M (after M woken) (poll ∷ woken)) (poll ∷ woken)) (poll ∷ woken)) poll) ≡ false
 interrupted = refl
-
--- With the Suspend step mended and all three taken, of four polls the third is no round yet, and the fourth is.
-abbrev all-three : List Op
-all-three = raise (record { reset = true; resume = true; suspend = true }) ∷ irq ∷ poll ∷ poll ∷ []
-
-third-is-none : isRound (display mended .event (after (display mended) all-three) poll) ≡ false
-third-is-none = refl
-
-fourth-is-round : isRound (display mended .event (run (display mended) (after (display mended) all-three) (poll ∷ [])) poll) ≡ true
-fourth-is-round = refl

@@ -36,7 +36,7 @@ module _ {M : Machine} {Good : M .State → Type 0} {L : Look M} (W : Lawful M G
           sum-more (weight t) (weight s) i (M .top - i) e
               (λ j a b. omega (arith, ap count (d .flag j (above j a b)), ap count (d .due j (above j a b)), count-or (eqb j e) (L .due s j))),
         )
-    spends s t (interrupt reads suspend) d =
+    spends s t (interrupt reads) d =
         omega (
           arith,
           sum-le (weight t) (weight s) i (M .top - i)
@@ -55,7 +55,7 @@ module _ {M : Machine} {Good : M .State → Type 0} {L : Look M} (W : Lawful M G
             omega (arith, sum-less (weight t) (weight s) i (M .top - i) (p .at) (p .above) b (omega (arith, c, ap count (d .due (p .at) (above (p .at) (p .above) b)))) less)
         go true false f = omega (arith, sum-le (weight t) (weight s) i (M .top - i) less)
         go false y f = omega (arith, sum-le (weight t) (weight s) i (M .top - i) less)
-    spends s t pause d = omega (arith, same s t (d .same .receive))
+    spends s t pause d = omega (arith, same s t (d .receive))
     spends s t quiet d = omega (arith, same s t (d .receive))
 
     spent : (s : M .State) (k : List (M .Op)) → Good s → falseNamings M i s k + potential (run M s k) ≤ arrivalsAbove M i s k + potential s

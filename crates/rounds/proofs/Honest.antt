@@ -1,63 +1,31 @@
 -- The small machine is lawful with the honest poll, so all four sentences can be kept, and what arrives waits as it came until it is taken. It
 -- is lawful too where its poll or its interrupt throws every packet away, where its poll leaves no byte of one, and with a poll that refuses
--- always, so the four say little without `NotEmpty`. With the Suspend step mended the last sentence needs no excuse, and one poll more.
+-- always, so the four say little without `NotEmpty`.
 -- Assumes nothing.
 use mathlib.Core.Path.{_≡_, refl, sym, ap, subst, _∙_}
-use mathlib.Core.Bool.{Bool, true, false, not, cond, true≢false, _&&_, _||_, and-true}
+use mathlib.Core.Bool.{Bool, true, false, not, cond, _&&_, _||_, and-true}
 use Prim.Native.Nat.{ℕ, suc, _+_, _≤_, _<_}
 use native.Mathlib.Omega.{arith}
 use native.Mathlib.Decide.{ℕ-discrete}
 use lib.Dec.{T, T-not, not-T, leb, le→leb, eqb, eqb→eq, eqb-refl}
 use borrow.Author.Tests.{eq-eqb, ne-eqb}
-use Rattle.rounds.specs.Machine.{Event, arrival, interrupt, round, quiet, count, arrivesAt, isAnsweredPoll, isInterrupt, takesSuspend, after}
-use Rattle.rounds.specs.Sentences.{Sentences, RoundAfter, UntilTaken, SameLength, NotEmpty}
+use Rattle.rounds.specs.Machine.{arrival, interrupt, round, quiet, count, arrivesAt, isAnsweredPoll, isInterrupt, after}
+use Rattle.rounds.specs.Sentences.{Sentences, UntilTaken, SameLength, NotEmpty}
 use Rattle.rounds.specs.Laws.{Look, Quiet, PutDown, Rounds, Pauses, Does, Lawful}
-use Rattle.rounds.specs.Shams.{Bus, State, Op, arrive, collect, take, raise, irq, poll, Polled, none, calm, bothBus, arrived, taken, thrown, hollowed, withFlags, withBus, brings, accepts, step, event, takes, machine, small, calls, inOrder, inMendedOrder, walked, honest, mended, throwsAway, throwsTaken, emptiesWaiting, refuses}
+use Rattle.rounds.specs.Shams.{Bus, State, Op, arrive, collect, take, raise, irq, poll, Polled, none, arrived, taken, thrown, hollowed, withFlags, withBus, brings, accepts, step, event, takes, machine, small, calls, inOrder, walked, honest, throwsAway, throwsTaken, emptiesWaiting, refuses}
 use Rattle.rounds.proofs.Counts.{count-at-most}
 use Rattle.rounds.proofs.Tests.{and-right, and-both, is-down}
 use Rattle.rounds.proofs.Lawful.{unchanged}
-use Rattle.rounds.proofs.Third.{round-after}
+use Rattle.rounds.proofs.Fourth.{round-after}
 use Rattle.rounds.proofs.Sentences.{sentences}
 use Rattle.rounds.proofs.Walk.{Down, none-new, kept, mistaken}
 
--- which of the bus flags are reported and put down before a round, and what excuses
-record Reports : Type 0 where
-  up : Bus → ℕ
-  excused : Bus → Bool
-  most : ℕ
-  excuse : Event → Bool
-  few : (b : Bus) → up b ≤ most
-  at-first : excused calm ≡ false
-  takes : (a b : Bus) (gone : ℕ → Bool) → excused (bothBus a b) ≡ (excused a || excuse (interrupt gone (b .suspend)))
+-- how many of the bus flags are up, and they are three at most
+abbrev up : Bus → ℕ
+up b = count (b .reset) + count (b .resume) + count (b .suspend)
 
--- reset and resume; a suspend excuses
-abbrev asIs : Reports
-asIs =
-    record {
-      up = λ b. count (b .reset) + count (b .resume);
-      excused = λ b. b .suspend;
-      most = 2;
-      excuse = takesSuspend;
-      few = λ b. omega (arith, count-at-most (b .reset), count-at-most (b .resume));
-      at-first = refl;
-      takes = λ a b gone. refl;
-    }
-
--- all three; nothing excuses
-abbrev pub never : Event → Bool
-never v = false
-
-abbrev allThree : Reports
-allThree =
-    record {
-      up = λ b. count (b .reset) + count (b .resume) + count (b .suspend);
-      excused = λ b. false;
-      most = 3;
-      excuse = never;
-      few = λ b. omega (arith, count-at-most (b .reset), count-at-most (b .resume), count-at-most (b .suspend));
-      at-first = refl;
-      takes = λ a b gone. refl;
-    }
+few : (b : Bus) → up b ≤ 3
+few b = omega (arith, count-at-most (b .reset), count-at-most (b .resume), count-at-most (b .suspend))
 
 -- two states that differ at most in what waits
 record Alike (s t : State) : Type 0 where
@@ -78,25 +46,23 @@ hollows s = record { flag = refl; due = refl; sent = refl; bus = refl }
 at : {a b : ℕ → Bool} → a ≡ b → (j : ℕ) → a j ≡ b j
 at p j = ap (λ (w : ℕ → Bool). w j) p
 
-module _ (B : Reports) (top : ℕ) (on : State → State) (ask : State → Polled) where
+module _ (top : ℕ) (on : State → State) (ask : State → Polled) where
   abbrev look : Look (machine top on ask)
   look =
       record {
         flag = λ s. s .flag;
         due = λ s. s .due;
         sent = λ s. s .sent;
-        up = λ s. B .up (s .bus);
-        excused = λ s. B .excused (s .bus);
-        most = B .most;
-        excuse = B .excuse;
+        up = λ s. up (s .bus);
+        most = 3;
       }
 
   idle : (s : State) → Quiet look s s
-  idle s = unchanged look s s refl refl refl refl refl
+  idle s = unchanged look s s refl refl refl refl
 
   arrive-does : (s : State) (e n : ℕ) (b : Bool) → Does look s (cond b (arrival e) quiet) (cond b (arrived s e n) s)
   arrive-does s e n true =
-      record { flag = λ j ep. refl; due = λ j ep. refl; sent = λ j ep. refl; bus = record { up = omega arith; excused = refl } }
+      record { flag = λ j ep. refl; due = λ j ep. refl; sent = λ j ep. refl; bus = omega arith }
   arrive-does s e n false = idle s
 
   one-arrival : (s : State) (e i : ℕ) (b : Bool) → accepts top s i ≡ b → T (s .ready e) → T (not (arrivesAt e (cond b (arrival i) quiet)))
@@ -106,14 +72,9 @@ module _ (B : Reports) (top : ℕ) (on : State → State) (ask : State → Polle
   one-arrival s e i false p w = tt
 
   -- the interrupt takes what is due, whatever it does to what waits
-  takes-all : (s : State) → Alike (taken s) (on s) → Does look s (interrupt (s .gone) (s .raised .suspend)) (on s)
+  takes-all : (s : State) → Alike (taken s) (on s) → Does look s (interrupt (s .gone)) (on s)
   takes-all s a =
-      record {
-        flag = λ j ep. at (a .flag) j;
-        due = λ j ep. at (a .due) j;
-        sent = λ j ep. at (a .sent) j;
-        excused = ap (B .excused) (a .bus) ∙ B .takes (s .bus) (s .raised) (s .gone);
-      }
+      record { flag = λ j ep. at (a .flag) j; due = λ j ep. at (a .due) j; sent = λ j ep. at (a .sent) j }
 
   module _
       (taking : (s : State) → Alike (taken s) (on s))
@@ -122,9 +83,9 @@ module _ (B : Reports) (top : ℕ) (on : State → State) (ask : State → Polle
     where
       does : (s : State) (o : Op) → Does look s (event top on ask s o) (step top on ask s o)
       does s (arrive e n) = arrive-does s e n (accepts top s e)
-      does s (collect e) = unchanged look s (step top on ask s (collect e)) refl refl refl refl refl
-      does s (take e) = unchanged look s (step top on ask s (take e)) refl refl refl refl refl
-      does s (raise b) = unchanged look s (step top on ask s (raise b)) refl refl refl refl refl
+      does s (collect e) = unchanged look s (step top on ask s (collect e)) refl refl refl refl
+      does s (take e) = unchanged look s (step top on ask s (take e)) refl refl refl refl
+      does s (raise b) = unchanged look s (step top on ask s (raise b)) refl refl refl refl
       does s irq = takes-all s (taking s)
       does s poll = asked s
 
@@ -143,33 +104,27 @@ module _ (B : Reports) (top : ℕ) (on : State → State) (ask : State → Polle
             good-step = λ s o g. tt;
             does = λ s o g. does s o;
             one-place = λ s o e g. one-place s o e;
-            most = λ s. B .few (s .bus);
+            most = λ s. few (s .bus);
             flag-fresh = λ j ep. refl;
             due-fresh = λ j ep. refl;
             sent-fresh = λ j ep. refl;
-            excused-fresh = B .at-first;
           }
 
 -- a poll that is honest but for what it leaves waiting
-module _ (B : Reports) (top : ℕ) (on : State → State) (ask : State → Polled) where
+module _ (top : ℕ) (on : State → State) (ask : State → Polled) where
   abbrev L : Look (machine top on ask)
-  L = look B top on ask
+  L = look top on ask
 
-  -- one of the flags put down, or what excuses up
-  paused : (s : State) (b : Bus) (t : State) → Alike (withBus s b) t → B .excused b ≡ B .excused (s .bus) → B .up b ≤ B .up (s .bus)
-      → (B .excused (s .bus) ≡ false → B .up b < B .up (s .bus)) → Pauses L s t
-  paused s b t a excused le less =
+  -- one of the flags put down
+  paused : (s : State) (b : Bus) (t : State) → Alike (withBus s b) t → up b < up (s .bus) → Pauses L s t
+  paused s b t a less =
       record {
-        same =
-            record {
-              receive = record { flag = λ j ep. at (a .flag) j; due = λ j ep. at (a .due) j };
-              sent = λ j ep. at (a .sent) j;
-              bus = record { up = subst (λ (x : Bus). B .up x ≤ B .up (s .bus)) (sym (a .bus)) le; excused = ap (B .excused) (a .bus) ∙ excused };
-            };
-        less = λ free. subst (λ (x : Bus). B .up x < B .up (s .bus)) (sym (a .bus)) (less free);
+        receive = record { flag = λ j ep. at (a .flag) j; due = λ j ep. at (a .due) j };
+        sent = λ j ep. at (a .sent) j;
+        less = subst (λ (x : Bus). up x < up (s .bus)) (sym (a .bus)) less;
       }
 
-  rounded : (s t : State) → Alike (withFlags s (walked top s) none) t → B .up (s .bus) ≡ 0 → Rounds L (walked top s) (s .sent) s t
+  rounded : (s t : State) → Alike (withFlags s (walked top s) none) t → up (s .bus) ≡ 0 → Rounds L (walked top s) (s .sent) s t
   rounded s t a none-up =
       record {
         named = λ i high. sym (at (a .flag) i);
@@ -180,7 +135,7 @@ module _ (B : Reports) (top : ℕ) (on : State → State) (ask : State → Polle
         sent = λ j ep. refl;
         wiped = λ j ep. at (a .sent) j;
         none-up = none-up;
-        bus = record { up = subst (λ (x : Bus). B .up x ≤ B .up (s .bus)) (sym (a .bus)) (omega arith); excused = ap (B .excused) (a .bus) };
+        bus = subst (λ (x : Bus). up x ≤ up (s .bus)) (sym (a .bus)) (omega arith);
       }
     where
       higher : (i : ℕ) → Down (s .flag) (walked top s) i (suc top) → PutDown L i s t
@@ -193,37 +148,21 @@ module _ (B : Reports) (top : ℕ) (on : State → State) (ask : State → Polle
             down = subst (λ (b : Bool). T (not b)) (sym (at (a .flag) (x .at))) (x .down);
           }
 
--- the answer of the honest poll and of the mended one, with their three tests taken apart
+-- the answer of the honest poll, with its three tests taken apart
 module _ (top : ℕ) where
-  abbrev inRound : State → Polled
-  inRound s = record { event = round (walked top s) (s .sent); state = withFlags s (walked top s) none }
-
   abbrev asked : State → Bool → Bool → Bool → Polled
-  asked s r m u = inOrder r m u s (inRound s)
-
-  abbrev askedMended : State → Bool → Bool → Bool → Polled
-  askedMended s r m u = inMendedOrder r m u s (inRound s)
+  asked s r m u = inOrder r m u s (record { event = round (walked top s) (s .sent); state = withFlags s (walked top s) none })
 
   module _ (on : State → State) (ask : State → Polled) (leave : State → State) (alike : (t : State) → Alike t (leave t)) where
     polled : (s : State) (r m u : Bool) → s .bus .reset ≡ r → s .bus .resume ≡ m → s .bus .suspend ≡ u
-        → Does (look asIs top on ask) s (asked s r m u .event) (leave (asked s r m u .state))
-    polled s true m u er em eu = let c = ap count er in paused asIs top on ask s _ _ (alike _) refl (omega (arith, c)) (λ a. omega (arith, c))
-    polled s false true u er em eu = let c = ap count em in paused asIs top on ask s _ _ (alike _) refl (omega (arith, c)) (λ a. omega (arith, c))
-    polled s false false true er em eu = paused asIs top on ask s _ _ (alike _) refl (omega arith) (λ a. absurd (true≢false (sym eu ∙ a)))
-    polled s false false false er em eu = rounded asIs top on ask s _ (alike _) (omega (arith, ap count er, ap count em))
+        → Does (look top on ask) s (asked s r m u .event) (leave (asked s r m u .state))
+    polled s true m u er em eu = let c = ap count er in paused top on ask s _ _ (alike _) (omega (arith, c))
+    polled s false true u er em eu = let c = ap count em in paused top on ask s _ _ (alike _) (omega (arith, c))
+    polled s false false true er em eu = let c = ap count eu in paused top on ask s _ _ (alike _) (omega (arith, c))
+    polled s false false false er em eu = rounded top on ask s _ (alike _) (omega (arith, ap count er, ap count em, ap count eu))
 
-    polls-honestly : (s : State) → Does (look asIs top on ask) s (honest top s .event) (leave (honest top s .state))
+    polls-honestly : (s : State) → Does (look top on ask) s (honest top s .event) (leave (honest top s .state))
     polls-honestly s = polled s (s .bus .reset) (s .bus .resume) (s .bus .suspend) refl refl refl
-
-  polled-mended : (s : State) (r m u : Bool) → s .bus .reset ≡ r → s .bus .resume ≡ m → s .bus .suspend ≡ u
-      → Does (look allThree top taken (mended top)) s (askedMended s r m u .event) (askedMended s r m u .state)
-  polled-mended s true m u er em eu =
-      let c = ap count er in paused allThree top taken (mended top) s _ _ (same _) refl (omega (arith, c)) (λ a. omega (arith, c))
-  polled-mended s false true u er em eu =
-      let c = ap count em in paused allThree top taken (mended top) s _ _ (same _) refl (omega (arith, c)) (λ a. omega (arith, c))
-  polled-mended s false false true er em eu =
-      let c = ap count eu in paused allThree top taken (mended top) s _ _ (same _) refl (omega (arith, c)) (λ a. omega (arith, c))
-  polled-mended s false false false er em eu = rounded allThree top taken (mended top) s _ (same _) (omega (arith, ap count er, ap count em, ap count eu))
 
   no-arrival : (s : State) (r m u : Bool) (e : ℕ) → T (not (arrivesAt e (asked s r m u .event)))
   no-arrival s true m u e = tt
@@ -233,12 +172,6 @@ module _ (top : ℕ) where
 
   none-comes : (s : State) (e : ℕ) → T (not (arrivesAt e (honest top s .event)))
   none-comes s e = no-arrival s (s .bus .reset) (s .bus .resume) (s .bus .suspend) e
-
-  none-comes-mended : (s : State) (r m u : Bool) (e : ℕ) → T (not (arrivesAt e (askedMended s r m u .event)))
-  none-comes-mended s true m u e = tt
-  none-comes-mended s false true u e = tt
-  none-comes-mended s false false true e = tt
-  none-comes-mended s false false false e = tt
 
   answered : (s : State) (r m u : Bool) → T (isAnsweredPoll (asked s r m u .event))
   answered s true m u = tt
@@ -258,43 +191,34 @@ module _ (top : ℕ) where
   as-long s false false true = refl
   as-long s false false false = refl
 
-  honest-lawful : Lawful (small top (honest top)) (λ s. T true) (look asIs top taken (honest top))
-  honest-lawful = lawful asIs top taken (honest top) (λ s. same (taken s)) (polls-honestly taken (honest top) (λ s. s) same) none-comes
+  honest-lawful : Lawful (small top (honest top)) (λ s. T true) (look top taken (honest top))
+  honest-lawful = lawful top taken (honest top) (λ s. same (taken s)) (polls-honestly taken (honest top) (λ s. s) same) none-comes
 
   pub honest-sentences : Sentences (small top (honest top))
   honest-sentences = sentences honest-lawful (round-after honest-lawful)
 
   -- the two machines that throw packets away keep the four sentences as well
-  thrower-lawful : Lawful (small top (throwsAway top)) (λ s. T true) (look asIs top taken (throwsAway top))
-  thrower-lawful = lawful asIs top taken (throwsAway top) (λ s. same (taken s)) (polls-honestly taken (throwsAway top) thrown throws) none-comes
+  thrower-lawful : Lawful (small top (throwsAway top)) (λ s. T true) (look top taken (throwsAway top))
+  thrower-lawful = lawful top taken (throwsAway top) (λ s. same (taken s)) (polls-honestly taken (throwsAway top) thrown throws) none-comes
 
   pub throwsAway-sentences : Sentences (small top (throwsAway top))
   throwsAway-sentences = sentences thrower-lawful (round-after thrower-lawful)
 
-  taker-lawful : Lawful (throwsTaken top) (λ s. T true) (look asIs top (λ s. thrown (taken s)) (honest top))
+  taker-lawful : Lawful (throwsTaken top) (λ s. T true) (look top (λ s. thrown (taken s)) (honest top))
   taker-lawful =
-      lawful asIs top (λ s. thrown (taken s)) (honest top) (λ s. throws (taken s))
+      lawful top (λ s. thrown (taken s)) (honest top) (λ s. throws (taken s))
       (polls-honestly (λ s. thrown (taken s)) (honest top) (λ s. s) same) none-comes
 
   pub throwsTaken-sentences : Sentences (throwsTaken top)
   throwsTaken-sentences = sentences taker-lawful (round-after taker-lawful)
 
   -- and so does the one that leaves no byte of a packet
-  emptier-lawful : Lawful (small top (emptiesWaiting top)) (λ s. T true) (look asIs top taken (emptiesWaiting top))
+  emptier-lawful : Lawful (small top (emptiesWaiting top)) (λ s. T true) (look top taken (emptiesWaiting top))
   emptier-lawful =
-      lawful asIs top taken (emptiesWaiting top) (λ s. same (taken s)) (polls-honestly taken (emptiesWaiting top) hollowed hollows) none-comes
+      lawful top taken (emptiesWaiting top) (λ s. same (taken s)) (polls-honestly taken (emptiesWaiting top) hollowed hollows) none-comes
 
   pub emptiesWaiting-sentences : Sentences (small top (emptiesWaiting top))
   emptiesWaiting-sentences = sentences emptier-lawful (round-after emptier-lawful)
-
-  -- the Suspend step mended: after three answered polls the next is a round, whatever was taken
-  mended-lawful : Lawful (small top (mended top)) (λ s. T true) (look allThree top taken (mended top))
-  mended-lawful =
-      lawful allThree top taken (mended top) (λ s. same (taken s)) (λ s. polled-mended s (s .bus .reset) (s .bus .resume) (s .bus .suspend) refl refl refl)
-      (λ s. none-comes-mended s (s .bus .reset) (s .bus .resume) (s .bus .suspend))
-
-  pub mended-round : RoundAfter (small top (mended top)) 3 never
-  mended-round = round-after mended-lawful
 
   -- what arrives waits until it is taken
   swapped : (e i : ℕ) → eqb e i ≡ eqb i e
@@ -400,8 +324,8 @@ module _ (top : ℕ) where
         read = λ h e ep o q w. subst (λ (o : Op). T (takes top taken (honest top) (after (small top (honest top)) h) o e)) (sym q) (eqb-refl e);
       }
 
-  refuser-lawful : Lawful (small top (refuses top)) (λ s. T true) (look asIs top taken (refuses top))
-  refuser-lawful = lawful asIs top taken (refuses top) (λ s. same (taken s)) (idle asIs top taken (refuses top)) (λ s e. tt)
+  refuser-lawful : Lawful (small top (refuses top)) (λ s. T true) (look top taken (refuses top))
+  refuser-lawful = lawful top taken (refuses top) (λ s. same (taken s)) (idle top taken (refuses top)) (λ s e. tt)
 
   pub refuses-sentences : Sentences (small top (refuses top))
   refuses-sentences = sentences refuser-lawful (round-after refuser-lawful)

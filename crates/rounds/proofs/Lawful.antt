@@ -10,12 +10,12 @@ use Rattle.rounds.specs.Laws.{Look, Quiet, Lawful}
 
 -- a refused call, and any other step that leaves all of this alone
 module _ {M : Machine} (L : Look M) (s t : M .State) where
-  pub unchanged : L .flag t ≡ L .flag s → L .due t ≡ L .due s → L .sent t ≡ L .sent s → L .up t ≡ L .up s → L .excused t ≡ L .excused s → Quiet L s t
-  unchanged flag due sent up excused =
+  pub unchanged : L .flag t ≡ L .flag s → L .due t ≡ L .due s → L .sent t ≡ L .sent s → L .up t ≡ L .up s → Quiet L s t
+  unchanged flag due sent up =
       record {
         receive = record { flag = λ j ep. ap (λ (w : ℕ → Bool). w j) flag; due = λ j ep. ap (λ (w : ℕ → Bool). w j) due };
         sent = λ j ep. ap (λ (w : ℕ → Bool). w j) sent;
-        bus = record { up = omega arith; excused = excused };
+        bus = omega arith;
       }
 
 module _ {M : Machine} {Good : M .State → Type 0} {L : Look M} (W : Lawful M Good L) where

@@ -5,7 +5,7 @@ pub mod Lawful
 pub mod Waiting
 pub mod False
 pub mod Sent
-pub mod Third
+pub mod Fourth
 pub mod Taken
 pub mod Sentences
 pub mod Walk

@@ -23,9 +23,9 @@ module _ {M : Machine} {Good : M .State → Type 0} {L : Look M} (W : Lawful M G
 
     gathers : (s t : M .State) (v : Event) → Does L s v t → T (not (isRound v)) → L .sent t e ≡ (L .sent s e || readsSent e v)
     gathers s t (arrival a) d n = d .sent e ep ∙ sym (or-false (L .sent s e))
-    gathers s t (interrupt reads suspend) d n = d .sent e ep
+    gathers s t (interrupt reads) d n = d .sent e ep
     gathers s t (round out complete) d n = absurd n
-    gathers s t pause d n = d .same .sent e ep ∙ sym (or-false (L .sent s e))
+    gathers s t pause d n = d .sent e ep ∙ sym (or-false (L .sent s e))
     gathers s t quiet d n = d .sent e ep ∙ sym (or-false (L .sent s e))
 
     -- over the operations since the round before, and up to it

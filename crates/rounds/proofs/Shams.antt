@@ -1,14 +1,14 @@
 -- Each sham breaks a sentence: a history that shows it, computed, on a machine with the display's endpoints.
 -- Assumes nothing.
 use mathlib.Core.Path.{_≡_, refl, ap}
-use mathlib.Core.Bool.{true≢false, false≢true}
+use mathlib.Core.Bool.{true, false, true≢false, false≢true}
 use mathlib.Core.List.{[], _∷_}
 use Prim.Native.Nat.{ℕ}
 use native.Mathlib.Nat.{not-suc-le-zero}
 use native.Mathlib.Omega.{arith}
 use Rattle.rounds.specs.Machine.{isRound}
-use Rattle.rounds.specs.Sentences.{Endpoint, Named, FewFalse, SentExactly, UntilTaken, SameLength, ThirdIsRound, NotEmpty}
-use Rattle.rounds.specs.Shams.{State, Polled, arrive, collect, take, irq, poll, taken, calls, display, neverClears, clearsWaiting, keepsSent, hidesReceive, hidesSent, repeats, throwsAway, throwsTaken, callsTakers, emptiesWaiting, alwaysNone, alwaysReset, refuses}
+use Rattle.rounds.specs.Sentences.{Endpoint, Named, FewFalse, SentExactly, UntilTaken, SameLength, FourthIsRound, none, more, NotEmpty}
+use Rattle.rounds.specs.Shams.{State, Polled, arrive, collect, take, raise, irq, poll, taken, calls, display, neverClears, clearsWaiting, keepsSent, hidesReceive, hidesSent, repeats, throwsAway, throwsTaken, callsTakers, emptiesWaiting, staysAsleep, alwaysNone, alwaysReset, refuses}
 
 one : (ask : (top : ℕ) → State → Polled) → Endpoint (display ask) 1
 one ask = record { low = omega arith; high = omega arith }
@@ -56,10 +56,15 @@ emptiesWaiting-out same =
     let p : _≡_ {A = ℕ} 0 8 = same .waits 1 (one emptiesWaiting) (arrive 1 8 ∷ irq ∷ []) poll tt tt in
     absurd (omega arith)
 
--- three polls with nothing taken at all
-pub alwaysReset-out : ThirdIsRound (display alwaysReset) → ⊥
-alwaysReset-out third =
-    third [] poll [] poll [] poll (record { awake = tt; first = tt; between = tt; second = tt; between′ = tt; third = tt })
+-- four polls with nothing taken at all
+pub alwaysReset-out : FourthIsRound (display alwaysReset) → ⊥
+alwaysReset-out fourth = fourth [] _ poll (more (more (more none poll [] tt tt) poll [] tt tt) poll [] tt tt) tt
+
+-- four polls after one suspend
+pub staysAsleep-out : FourthIsRound (display staysAsleep) → ⊥
+staysAsleep-out fourth =
+    fourth (raise (record { reset = false; resume = false; suspend = true }) ∷ irq ∷ []) _ poll
+    (more (more (more none poll [] tt tt) poll [] tt tt) poll [] tt tt) tt
 
 -- a poll that is lent enough, and refused
 pub refuses-out : NotEmpty (display refuses) (calls 5 taken (refuses 5)) → ⊥

@@ -26,16 +26,16 @@ module _ {M : Machine} {Good : M .State → Type 0} {L : Look M} (W : Lawful M G
     -- one step: the flag of a waiting packet stays, and what is due stays due or is flagged
     flag-stays : (s t : M .State) (v : Event) → Does L s v t → T (M .waiting s e) → T (L .flag s e) → T (L .flag t e)
     flag-stays s t (arrival a) d w x = back (d .flag e ep) x
-    flag-stays s t (interrupt reads suspend) d w x = back (d .flag e ep) (or-left (L .flag s e) (L .due s e) x)
+    flag-stays s t (interrupt reads) d w x = back (d .flag e ep) (or-left (L .flag s e) (L .due s e) x)
     flag-stays s t (round out complete) d w x = d .kept e ep w x
-    flag-stays s t pause d w x = back (d .same .receive .flag e ep) x
+    flag-stays s t pause d w x = back (d .receive .flag e ep) x
     flag-stays s t quiet d w x = back (d .receive .flag e ep) x
 
     due-stays : (s t : M .State) (v : Event) → Does L s v t → T (L .due s e) → Owed t
     due-stays s t (arrival a) d x = inr (back (d .due e ep) (or-right (eqb e a) (L .due s e) x))
-    due-stays s t (interrupt reads suspend) d x = inl (back (d .flag e ep) (or-right (L .flag s e) (L .due s e) x))
+    due-stays s t (interrupt reads) d x = inl (back (d .flag e ep) (or-right (L .flag s e) (L .due s e) x))
     due-stays s t (round out complete) d x = inr (back (d .due e ep) x)
-    due-stays s t pause d x = inr (back (d .same .receive .due e ep) x)
+    due-stays s t pause d x = inr (back (d .receive .due e ep) x)
     due-stays s t quiet d x = inr (back (d .receive .due e ep) x)
 
     owed-stays : (s : M .State) (o : M .Op) → Good s → T (M .waiting s e) → Owed s → Owed (M .step s o)
@@ -49,7 +49,7 @@ module _ {M : Machine} {Good : M .State → Type 0} {L : Look M} (W : Lawful M G
         (λ a same d. back (d .due e ep) (or-left (eqb e a) (L .due s e) (subst (λ (m : ℕ). T (eqb e m)) (sym (eqb→eq a e same)) (eqb-refl e)))) v at d
 
     taken-flags : (s t : M .State) (v : Event) → Does L s v t → T (isInterrupt v) → Owed s → T (L .flag t e)
-    taken-flags s t v d i x = at-interrupt (λ v. Does L s v t → T (L .flag t e)) (λ reads suspend d. back (d .flag e ep) (either x)) v i d
+    taken-flags s t v d i x = at-interrupt (λ v. Does L s v t → T (L .flag t e)) (λ reads d. back (d .flag e ep) (either x)) v i d
       where
         either : Owed s → T (L .flag s e || L .due s e)
         either (inl y) = or-left (L .flag s e) (L .due s e) y

@@ -7,16 +7,13 @@ use lib.Dec.{T, eqb}
 use Rattle.rounds.specs.Machine.{Event, arrival, interrupt, round, pause, quiet, Machine, arrivesAt}
 use Rattle.rounds.specs.Sentences.{Endpoint}
 
--- What the laws look at in a state, and the two parameters of the last sentence: how many answered polls in a row may be no round, and
--- what excuses more of them.
+-- What the laws look at in a state, and the parameter of the last sentence: how many answered polls in a row may be no round.
 pub record Look (M : Machine) : Type 0 where
   pub flag : M .State → ℕ → Bool  -- the endpoint's receive flag is up
   pub due : M .State → ℕ → Bool  -- its receive interrupt was raised and is not yet taken
   pub sent : M .State → ℕ → Bool  -- its transmit flag is up
-  pub up : M .State → ℕ  -- how many flags are up that an answered poll reports and puts down before a round: of the driver, reset and resume
-  pub excused : M .State → Bool  -- what excuses more polls was taken: of the driver, the suspend flag is up, which no poll puts down
+  pub up : M .State → ℕ  -- how many flags are up that an answered poll reports and puts down before a round: of the driver, reset, resume and suspend
   pub most : ℕ  -- how many such flags there are
-  pub excuse : Event → Bool  -- the interrupts that excuse
 
 module _ {M : Machine} (L : Look M) where
   -- what holds at each of the endpoints 1 to the highest
@@ -27,10 +24,9 @@ module _ {M : Machine} (L : Look M) where
     pub flag : Each (λ j. L .flag t j ≡ L .flag s j)
     pub due : Each (λ j. L .due t j ≡ L .due s j)
 
-  -- none of the bus flags rises, and what excuses stays
-  pub record Falls (s t : M .State) : Type 0 where
-    pub up : L .up t ≤ L .up s
-    pub excused : L .excused t ≡ L .excused s
+  -- no more of the flags that are reported first are up than before
+  abbrev pub Falls : M .State → M .State → Type 0
+  Falls s t = L .up t ≤ L .up s
 
   pub record Quiet (s t : M .State) : Type 0 where
     pub receive : SameReceive s t
@@ -43,11 +39,10 @@ module _ {M : Machine} (L : Look M) where
     pub sent : Each (λ j. L .sent t j ≡ L .sent s j)
     pub bus : Falls s t
 
-  pub record Takes (reads : ℕ → Bool) (suspend : Bool) (s t : M .State) : Type 0 where
+  pub record Takes (reads : ℕ → Bool) (s t : M .State) : Type 0 where
     pub flag : Each (λ j. L .flag t j ≡ (L .flag s j || L .due s j))
     pub due : Each (λ j. L .due t j ≡ false)
     pub sent : Each (λ j. L .sent t j ≡ (L .sent s j || reads j))
-    pub excused : L .excused t ≡ (L .excused s || L .excuse (interrupt reads suspend))
 
   -- a flag above i that was put down
   pub record PutDown (i : ℕ) (s t : M .State) : Type 0 where
@@ -73,13 +68,14 @@ module _ {M : Machine} (L : Look M) where
     pub bus : Falls s t
 
   pub record Pauses (s t : M .State) : Type 0 where
-    pub same : Quiet s t
-    -- unless it is excused, it puts one of its flags down
-    pub less : L .excused s ≡ false → L .up t < L .up s
+    pub receive : SameReceive s t
+    pub sent : Each (λ j. L .sent t j ≡ L .sent s j)
+    -- it puts down one of the flags that are reported first
+    pub less : L .up t < L .up s
 
   abbrev pub Does : M .State → Event → M .State → Type 0
   Does s (arrival e) t = Arrives e s t
-  Does s (interrupt sent suspend) t = Takes sent suspend s t
+  Does s (interrupt sent) t = Takes sent s t
   Does s (round named sent) t = Rounds named sent s t
   Does s pause t = Pauses s t
   Does s quiet t = Quiet s t
@@ -96,4 +92,3 @@ pub record Lawful (M : Machine) (Good : M .State → Type 0) (L : Look M) : Type
   pub flag-fresh : (j : ℕ) → Endpoint M j → L .flag (M .fresh) j ≡ false
   pub due-fresh : (j : ℕ) → Endpoint M j → L .due (M .fresh) j ≡ false
   pub sent-fresh : (j : ℕ) → Endpoint M j → L .sent (M .fresh) j ≡ false
-  pub excused-fresh : L .excused (M .fresh) ≡ false

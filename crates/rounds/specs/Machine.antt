@@ -8,7 +8,7 @@ use lib.Dec.{T, ltb, eqb}
 -- What happened in one step of a history. A refused poll, interrupt or arrival is nothing: `quiet`.
 pub data Event : Type 0 where
   arrival : ℕ → Event  -- a packet arrived at an endpoint
-  interrupt : (ℕ → Bool) → Bool → Event  -- an interrupt was taken: the transmit bits and the suspend bit that it read
+  interrupt : (ℕ → Bool) → Event  -- an interrupt was taken: the transmit bits that it read
   round : (ℕ → Bool) → (ℕ → Bool) → Event  -- a poll was answered None or Data: the endpoints named for reading, and as sent
   pause : Event  -- a poll was answered Reset, Resume or Suspend
   quiet : Event  -- anything else
@@ -29,14 +29,14 @@ pub record Machine : Type 1 where
 -- a round: "an answered poll that is neither Reset, Resume nor Suspend"
 abbrev pub isRound : Event → Bool
 isRound (arrival e) = false
-isRound (interrupt sent suspend) = false
+isRound (interrupt sent) = false
 isRound (round named sent) = true
 isRound pause = false
 isRound quiet = false
 
 abbrev pub isAnsweredPoll : Event → Bool
 isAnsweredPoll (arrival e) = false
-isAnsweredPoll (interrupt sent suspend) = false
+isAnsweredPoll (interrupt sent) = false
 isAnsweredPoll (round named sent) = true
 isAnsweredPoll pause = true
 isAnsweredPoll quiet = false
@@ -44,23 +44,15 @@ isAnsweredPoll quiet = false
 -- an interrupt was taken
 abbrev pub isInterrupt : Event → Bool
 isInterrupt (arrival e) = false
-isInterrupt (interrupt sent suspend) = true
+isInterrupt (interrupt sent) = true
 isInterrupt (round named sent) = false
 isInterrupt pause = false
 isInterrupt quiet = false
 
--- a suspend was taken: an interrupt read the suspend bit as set
-abbrev pub takesSuspend : Event → Bool
-takesSuspend (arrival e) = false
-takesSuspend (interrupt sent suspend) = suspend
-takesSuspend (round named sent) = false
-takesSuspend pause = false
-takesSuspend quiet = false
-
 -- an interrupt that read e's transmit bit as set
 abbrev pub readsSent : ℕ → Event → Bool
 readsSent e (arrival a) = false
-readsSent e (interrupt sent suspend) = sent e
+readsSent e (interrupt sent) = sent e
 readsSent e (round named sent) = false
 readsSent e pause = false
 readsSent e quiet = false
@@ -68,14 +60,14 @@ readsSent e quiet = false
 -- a round that names e for reading, and one that names e as sent
 abbrev pub names : ℕ → Event → Bool
 names e (arrival a) = false
-names e (interrupt sent suspend) = false
+names e (interrupt sent) = false
 names e (round named sent) = named e
 names e pause = false
 names e quiet = false
 
 abbrev pub namesSent : ℕ → Event → Bool
 namesSent e (arrival a) = false
-namesSent e (interrupt sent suspend) = false
+namesSent e (interrupt sent) = false
 namesSent e (round named sent) = sent e
 namesSent e pause = false
 namesSent e quiet = false
@@ -83,7 +75,7 @@ namesSent e quiet = false
 -- a packet arrived whose endpoint passes a test
 abbrev pub arrives : (ℕ → Bool) → Event → Bool
 arrives which (arrival a) = which a
-arrives which (interrupt sent suspend) = false
+arrives which (interrupt sent) = false
 arrives which (round named sent) = false
 arrives which pause = false
 arrives which quiet = false

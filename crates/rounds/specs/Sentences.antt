@@ -1,11 +1,11 @@
 -- Demand 3's four sentences over any machine, that a packet waits as it came until it is taken, and that the sentences are not empty.
 -- Assumes nothing.
 use mathlib.Core.Path.{_≡_}
-use mathlib.Core.Bool.{Bool, true, false, not, _&&_, _||_}
+use mathlib.Core.Bool.{true, false, not, _&&_, _||_}
 use mathlib.Core.List.{List, _∷_}
 use Prim.Native.Nat.{ℕ, suc, _≤_}
 use lib.Dec.{T}
-use Rattle.rounds.specs.Machine.{Event, quiet, Machine, isRound, isAnsweredPoll, isInterrupt, takesSuspend, readsSent, names, namesSent, arrivesAt, run, after, some, Stays, taken, falseNamings, arrivalsAbove, endsInRound}
+use Rattle.rounds.specs.Machine.{quiet, Machine, isRound, isAnsweredPoll, isInterrupt, readsSent, names, namesSent, arrivesAt, run, after, some, Stays, taken, falseNamings, arrivalsAbove, endsInRound}
 
 module _ (M : Machine) where
   abbrev History : Type 0
@@ -53,42 +53,22 @@ module _ (M : Machine) where
       (e : ℕ) → Endpoint e → (h k : History) (p : M .Op)
       → NextRound h k p → namesSent e (M .event (run M (after M h) k) p) ≡ some M (readsSent e) (after M h) k
 
-  -- 4. "While no suspend has been taken, of three answered polls with no interrupt taken between them the third is a round."
+  -- 4. "of [four] answered polls with no interrupt taken between them the [fourth] is a round" (document 02, T-06: the customer's sentence, of three
+  -- polls, "drops its premise about suspend and says the fourth of four polls is a round")
 
-  -- The polls are p after h, q after k more, and r after l more. No interrupt is taken in k and l, so that a suspend could be in h only.
-  -- Where the second and the third stand.
-  abbrev pub atSecond : History → M .Op → History → M .State
-  atSecond h p k = run M (after M h) (p ∷ k)
-
-  abbrev pub atThird : History → M .Op → History → M .Op → History → M .State
-  atThird h p k q l = run M (atSecond h p k) (q ∷ l)
-
-  pub record ThreePolls (h : History) (p : M .Op) (k : History) (q : M .Op) (l : History) (r : M .Op) : Type 0 where
-    pub awake : T (not (some M takesSuspend (M .fresh) h))
-    pub first : T (isAnsweredPoll (M .event (after M h) p))
-    pub between : T (not (some M isInterrupt (M .step (after M h) p) k))
-    pub second : T (isAnsweredPoll (M .event (atSecond h p k) q))
-    pub between′ : T (not (some M isInterrupt (M .step (atSecond h p k) q) l))
-    pub third : T (isAnsweredPoll (M .event (atThird h p k q l) r))
-
-  abbrev pub ThirdIsRound : Type 0
-  ThirdIsRound =
-      (h : History) (p : M .Op) (k : History) (q : M .Op) (l : History) (r : M .Op)
-      → ThreePolls h p k q l r → T (isRound (M .event (atThird h p k q l) r))
-
-  -- The same with any number of polls, and any interrupt as the excuse. From s on there are n answered polls, each with more operations
-  -- after it in which no interrupt is taken, and they lead to the last state.
+  -- From s on there are n answered polls, each with more operations after it in which no interrupt is taken, and they lead to the last state.
   pub data Polls (s : M .State) : ℕ → M .State → Type 0 where
     none : Polls s 0 s
     more : {n : ℕ} {t : M .State} → Polls s n t → (p : M .Op) (k : History)
         → T (isAnsweredPoll (M .event t p)) → T (not (some M isInterrupt (M .step t p) k)) → Polls s (suc n) (run M t (p ∷ k))
 
-  -- After n answered polls with no interrupt taken between them an answered poll is a round, while nothing that excuses it has been taken.
-  -- `RoundAfter 2 takesSuspend` is sentence 4: it gives `ThirdIsRound`.
-  abbrev pub RoundAfter : ℕ → (Event → Bool) → Type 0
-  RoundAfter n excuse =
-      (h : History) (t : M .State) (p : M .Op)
-      → T (not (some M excuse (M .fresh) h)) → Polls (after M h) n t → T (isAnsweredPoll (M .event t p)) → T (isRound (M .event t p))
+  -- After n answered polls with no interrupt taken between them, or since the last, an answered poll is a round.
+  abbrev pub RoundAfter : ℕ → Type 0
+  RoundAfter n =
+      (h : History) (t : M .State) (p : M .Op) → Polls (after M h) n t → T (isAnsweredPoll (M .event t p)) → T (isRound (M .event t p))
+
+  abbrev pub FourthIsRound : Type 0
+  FourthIsRound = RoundAfter 3
 
   -- Beside the four, or a driver that names every packet and throws it away would keep them: at first nothing waits, and then there
   -- waits at each endpoint what arrives there, until an answered operation takes it. No packet comes or goes in any other way.
@@ -128,7 +108,7 @@ module _ (M : Machine) where
     pub samePacket : SamePacket
     pub fewFalse : FewFalse
     pub sentExactly : SentExactly
-    pub thirdIsRound : ThirdIsRound
+    pub fourthIsRound : FourthIsRound
 
 -- That the sentences are not empty. Which operations are lent enough, and which states are good, is for each machine to say.
 pub record Calls (M : Machine) : Type 1 where

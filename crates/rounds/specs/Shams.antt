@@ -102,23 +102,23 @@ abbrev pub hollowed : State → State
 hollowed s =
     record { ready = s .ready; length = λ j. 0; due = s .due; gone = s .gone; raised = s .raised; flag = s .flag; sent = s .sent; bus = s .bus; first = s .first }
 
--- the order of a poll: Reset, Resume, Suspend (which puts down reset and never its own), then a round
+-- the order of a poll: Reset, Resume, Suspend, each of which puts down its own flag, then a round
 abbrev pub inOrder : Bool → Bool → Bool → State → Polled → Polled
 inOrder true resume suspend s r =
     record { event = pause; state = withBus s (record { reset = false; resume = s .bus .resume; suspend = s .bus .suspend }) }
 inOrder false true suspend s r =
     record { event = pause; state = withBus s (record { reset = s .bus .reset; resume = false; suspend = s .bus .suspend }) }
 inOrder false false true s r =
-    record { event = pause; state = withBus s (record { reset = false; resume = s .bus .resume; suspend = s .bus .suspend }) }
+    record { event = pause; state = withBus s (record { reset = s .bus .reset; resume = s .bus .resume; suspend = false }) }
 inOrder false false false s r = r
 
--- the same with a mended Suspend step, which puts down its own flag and leaves reset's
-abbrev pub inMendedOrder : Bool → Bool → Bool → State → Polled → Polled
-inMendedOrder true resume suspend s r = inOrder true resume suspend s r
-inMendedOrder false true suspend s r = inOrder false true suspend s r
-inMendedOrder false false true s r =
-    record { event = pause; state = withBus s (record { reset = s .bus .reset; resume = s .bus .resume; suspend = false }) }
-inMendedOrder false false false s r = r
+-- the same with the source's Suspend step, which puts down reset's flag and never its own
+abbrev pub inSourceOrder : Bool → Bool → Bool → State → Polled → Polled
+inSourceOrder true resume suspend s r = inOrder true resume suspend s r
+inSourceOrder false true suspend s r = inOrder false true suspend s r
+inSourceOrder false false true s r =
+    record { event = pause; state = withBus s (record { reset = false; resume = s .bus .resume; suspend = s .bus .suspend }) }
+inSourceOrder false false false s r = r
 
 -- a poll that names `out` and `complete` in its rounds, and leaves the flags `flag` and `sent`
 abbrev pub polling : (out complete flag sent : State → ℕ → Bool) → State → Polled
@@ -164,7 +164,7 @@ module _ (top : ℕ) where
     event s (collect e) = quiet
     event s (take e) = quiet
     event s (raise b) = quiet
-    event s irq = interrupt (s .gone) (s .raised .suspend)
+    event s irq = interrupt (s .gone)
     event s poll = ask s .event
 
     -- a packet is taken by being read
@@ -204,10 +204,10 @@ module _ (top : ℕ) where
   abbrev pub honest : State → Polled
   honest = polling walked (λ s. s .sent) walked (λ s. none)
 
-  -- honest, with the Suspend step mended
-  abbrev pub mended : State → Polled
-  mended s =
-      inMendedOrder (s .bus .reset) (s .bus .resume) (s .bus .suspend) s
+  -- honest, with the source's Suspend step: once a suspend is taken no poll is a round any more. "The port stays dead until someone pulls the fuse."
+  abbrev pub staysAsleep : State → Polled
+  staysAsleep s =
+      inSourceOrder (s .bus .reset) (s .bus .resume) (s .bus .suspend) s
       (record { event = round (walked s) (s .sent); state = withFlags s (walked s) none })
 
   -- never clears a flag

@@ -19,7 +19,6 @@ ghost use Rattle.store_rules.specs.Stores.{log};
 ghost use Rattle.round_rules.specs.Round.{told};
 ghost use Rattle.round_rules.specs.Zero.{roundOf};
 ghost use Rattle.round_rules.specs.Poll.{outcome, afterOf, polled, walkedOn, acceptedOn, roundOut, pollLogged, pollServed, pollAdmitted, pollCall};
-ghost use Rattle.record.specs.Record.{withReset};
 
 pub fn poll(k: Record, list: &mut [u16]) -> PollCalled
     ensures { λ p. ⌜ outcome p (now (list .exit)) ≡ pollCall k (now (list .entry)) ⌝ }
@@ -67,13 +66,16 @@ fn serve(b: Board, w: &mut [u16; 46], list: &mut [u16], c: ControlState, f: Flag
     by_flags(w, list, n, c, f)
 }
 
-// Reset, Resume, Suspend, and then a round. The Suspend step puts down the reset flag and not its own, as the source does.
+// Reset, Resume, Suspend, and then a round: each step puts down its own flag. (The source's Suspend step puts down the reset flag and never its own, so
+// that its port stays dead once the laptop has slept: docs/changes/T-06.md.)
 fn by_flags(w: &mut [u16; 46], list: &mut [u16], n: usize, c: ControlState, f: Flags) -> PollRan
     requires { ⌜ (f .«ep_rx» < 64) × (n * 3 + 24 ≤ length (now list)) ⌝ }
     ensures { λ p. ⌜ afterOf p (now (w .exit)) (now (list .exit)) ≡ pollLogged (log (now (w .entry)) (now (list .entry)) n) c f ⌝ }
 {
     if f.reset {
-        return answer(PollResult::Reset, n, c, reset_down(f));
+        let mut g = f;
+        g.reset = false;
+        return answer(PollResult::Reset, n, c, g);
     }
     if f.resume {
         let mut g = f;
@@ -81,7 +83,9 @@ fn by_flags(w: &mut [u16; 46], list: &mut [u16], n: usize, c: ControlState, f: F
         return answer(PollResult::Resume, n, c, g);
     }
     if f.suspend {
-        return answer(PollResult::Suspend, n, c, reset_down(f));
+        let mut g = f;
+        g.suspend = false;
+        return answer(PollResult::Suspend, n, c, g);
     }
     round(w, list, n, c, f)
 }
@@ -95,14 +99,6 @@ fn answer(a: PollResult, n: usize, c: ControlState, f: Flags) -> PollRan
         control_state: c,
         irq: f,
     }
-}
-
-fn reset_down(f: Flags) -> Flags
-    ensures { λ o. ⌜ o ≡ withReset f false ⌝ }
-{
-    let mut o = f;
-    o.reset = false;
-    o
 }
 
 fn round(w: &mut [u16; 46], list: &mut [u16], n: usize, c: ControlState, f: Flags) -> PollRan

@@ -123,6 +123,7 @@ fn program(argument: &str) -> Option<Program> {
         form: Form {
             detail: form.0,
             from_record: form.1,
+            ..Form::default()
         },
         differing: 0,
     })
@@ -146,8 +147,8 @@ fn compare(mut task: Task) -> Result<u64, String> {
             }
         }
         let form = Form {
-            detail: false,
             from_record,
+            ..Form::default()
         };
         report_tallied(&input, form, &mut Vec::new(), &mut tally).ok_or("not behind a record")?;
         if same {

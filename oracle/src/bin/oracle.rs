@@ -1,4 +1,5 @@
-//! Reads a trace on standard input and prints the report that the original driver gives.
+//! Reads a trace on standard input and prints the report that the original driver gives, with what document 02 changes
+//! of it unless it is to run as published.
 
 use musb_oracle::record::HEAD_BYTES;
 use musb_oracle::report::{report_tallied, Form};
@@ -8,11 +9,12 @@ use std::io::{self, Read, Write};
 use std::process::ExitCode;
 
 const USAGE: &str = "\
-usage: oracle [--detail] [--from] [--many] [--tally] < TRACE
-  --detail  stores and record under each entry's line
-  --from    the trace stands behind a record: 96 numbers of four bytes, low byte first, and the FIFO's 1,664 bytes
-  --many    many traces, each behind its length in four bytes, low byte first; the reports one after the other
-  --tally   counts of replies, poll answers and control states in place of the reports";
+usage: oracle [--detail] [--from] [--many] [--tally] [--published] < TRACE
+  --detail     stores and record under each entry's line
+  --from       the trace stands behind a record: 96 numbers of four bytes, low byte first, and the FIFO's 1,664 bytes
+  --many       many traces, each behind its length in four bytes, low byte first; the reports one after the other
+  --tally      counts of replies, poll answers and control states in place of the reports
+  --published  the original as it was published, with nothing of document 02";
 
 fn main() -> ExitCode {
     match run() {
@@ -33,6 +35,7 @@ fn run() -> Result<(), String> {
             "--from" => form.from_record = true,
             "--many" => many = true,
             "--tally" => tallied = true,
+            "--published" => form.published = true,
             _ => return Err(USAGE.to_string()),
         }
     }

@@ -1,7 +1,7 @@
 //! Entries drawn with a look at where the driver stands: what would move it on is drawn more often.
 
 use super::dice::Dice;
-use super::random::{Draw, Source};
+use super::random::Source;
 use crate::info::{area_size, COUNT};
 use crate::machine::Machine;
 use crate::trace::{put_entry, put_packet, Next, Reader};
@@ -9,11 +9,6 @@ use crate::window::State;
 use embassy_usb_driver::Direction;
 
 pub fn guided(dice: &mut Dice, count: usize) -> Vec<u8> {
-    let even = Draw::new(dice, Source::Even);
-    let limits = Draw {
-        source: Source::Limits,
-        ..even
-    };
     let mut machine = Machine::fresh();
     let mut trace = Vec::new();
     if !dice.one_in(4) {
@@ -23,8 +18,8 @@ pub fn guided(dice: &mut Dice, count: usize) -> Vec<u8> {
     for _ in 0..count {
         let start = trace.len();
         match dice.below(10) {
-            0 | 1 => even.put(dice, &mut trace),
-            2 => limits.put(dice, &mut trace),
+            0 | 1 => Source::Even.put(dice, &mut trace),
+            2 => Source::Limits.put(dice, &mut trace),
             3 | 4 => put_entry(&mut trace, dice.pick(&[9, 9, 10]), &[]),
             5..=7 => control_step(dice, &machine, &mut trace),
             _ => data_step(dice, &machine, &mut trace),

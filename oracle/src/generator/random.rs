@@ -5,18 +5,11 @@ use crate::info::{area_size, COUNT};
 use crate::trace::{put_entry, put_packet};
 use embassy_usb_driver::Direction;
 
-/// Where arguments come from.
+/// Where the arguments of an entry come from.
 #[derive(Clone, Copy, PartialEq, Eq)]
 pub enum Source {
     Even,
     Limits,
-}
-
-/// Draws entries. Once a suspend is taken the driver answers nothing else for the rest of a trace
-/// (document 01: "never its own"), so most traces have no suspend.
-pub struct Draw {
-    pub source: Source,
-    pub suspends: bool,
 }
 
 pub fn uniform(dice: &mut Dice, count: usize) -> Vec<u8> {
@@ -28,22 +21,14 @@ pub fn boundary(dice: &mut Dice, count: usize) -> Vec<u8> {
 }
 
 fn trace_of(dice: &mut Dice, source: Source, count: usize) -> Vec<u8> {
-    let draw = Draw::new(dice, source);
     let mut trace = Vec::new();
     for _ in 0..count {
-        draw.put(dice, &mut trace);
+        source.put(dice, &mut trace);
     }
     trace
 }
 
-impl Draw {
-    pub fn new(dice: &mut Dice, source: Source) -> Draw {
-        Draw {
-            source,
-            suspends: dice.one_in(5),
-        }
-    }
-
+impl Source {
     /// Appends an entry of any code.
     pub fn put(&self, dice: &mut Dice, trace: &mut Vec<u8>) {
         let code = 1 + dice.under(17);
@@ -63,7 +48,7 @@ impl Draw {
             7 => put_entry(trace, code, &[self.endpoint(dice), dice.under(2), dice.under(2)]),
             8 => put_entry(trace, code, &[self.endpoint(dice), dice.under(2)]),
             13 | 16 | 17 => put_entry(trace, code, &[self.endpoint(dice)]),
-            14 => put_entry(trace, code, &[self.bus_event(dice)]),
+            14 => put_entry(trace, code, &[dice.under(3)]),
             _ => put_entry(trace, code, &[]),
         }
     }
@@ -71,7 +56,7 @@ impl Draw {
     fn put_packet(&self, code: u32, direction: Direction, dice: &mut Dice, trace: &mut Vec<u8>) {
         let endpoint = self.endpoint(dice);
         let area = area_size(endpoint as usize % COUNT, direction) as u64;
-        let length = match self.source {
+        let length = match self {
             Source::Even if dice.one_in(3) => dice.below(10),
             Source::Even if dice.one_in(20) => dice.below(600),
             Source::Even => dice.below(area + 2),
@@ -86,7 +71,7 @@ impl Draw {
     }
 
     fn endpoint(&self, dice: &mut Dice) -> u32 {
-        match self.source {
+        match self {
             Source::Even if dice.one_in(20) => dice.under(256),
             Source::Even => dice.under(COUNT as u32),
             Source::Limits if dice.one_in(6) => dice.pick(&[6, 7, 15, 16, 127, 128, 129, 133, 254, 255]),
@@ -95,7 +80,7 @@ impl Draw {
     }
 
     fn wanted(&self, dice: &mut Dice) -> u32 {
-        match self.source {
+        match self {
             Source::Even if dice.one_in(20) => dice.under(257),
             Source::Even => dice.under(COUNT as u32 + 1),
             Source::Limits => dice.pick(&[0, 0, 0, 0, 1, 2, 3, 4, 5, 6, 7, 8, 128, 129, 130, 255, 256]),
@@ -103,7 +88,7 @@ impl Draw {
     }
 
     fn size(&self, dice: &mut Dice) -> u32 {
-        match self.source {
+        match self {
             Source::Even if dice.one_in(4) => dice.under(600),
             Source::Even if dice.one_in(20) => dice.under(65_536),
             Source::Even => dice.under(66),
@@ -112,25 +97,17 @@ impl Draw {
     }
 
     fn address(&self, dice: &mut Dice) -> u32 {
-        match self.source {
+        match self {
             Source::Even => dice.under(256),
             Source::Limits => dice.pick(&[0, 1, 126, 127, 128, 129, 254, 255]),
         }
     }
 
     fn buffer(&self, dice: &mut Dice) -> u32 {
-        match self.source {
+        match self {
             Source::Even if dice.one_in(2) => 64,
             Source::Even => dice.under(513),
             Source::Limits => dice.pick(&[0, 1, 7, 8, 9, 63, 64, 65, 127, 128, 129, 511, 512]),
-        }
-    }
-
-    pub fn bus_event(&self, dice: &mut Dice) -> u32 {
-        if self.suspends {
-            dice.under(3)
-        } else {
-            dice.pick(&[0, 2])
         }
     }
 }

@@ -2,7 +2,7 @@
 //! its row.
 
 use super::dice::Dice;
-use super::random::{Draw, Source};
+use super::random::Source;
 use crate::info::{area_size, COUNT, FIFO_BYTES};
 use crate::record::{head_of, Record, NUMBERS};
 use embassy_usb_driver::Direction;
@@ -25,17 +25,13 @@ pub fn behind_record(dice: &mut Dice) -> Vec<u8> {
     let fifo: [u8; FIFO_BYTES] = std::array::from_fn(|_| dice.next() as u8);
     let mut input = head_of(&record, &fifo);
     let source = dice.pick(&[Source::Even, Source::Limits]);
-    let draw = Draw {
-        source,
-        suspends: true,
-    };
     for _ in 0..1 + dice.below(4) {
         // The calls with the most to decide are drawn more often.
         match dice.below(3) {
-            0 => draw.put(dice, &mut input),
+            0 => source.put(dice, &mut input),
             _ => {
                 let code = dice.pick(&[1, 3, 5, 6, 9, 9]);
-                draw.put_code(code, dice, &mut input)
+                source.put_code(code, dice, &mut input)
             }
         }
     }

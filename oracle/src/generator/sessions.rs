@@ -140,10 +140,10 @@ impl Session<'_> {
         self.call(3, &[]);
     }
 
+    /// The laptop's lid is closed and opened, now and then before the device has looked.
     fn sleep(&mut self) {
-        // After a suspend the driver says nothing else any more: mostly the host only resumes.
-        if self.dice.one_in(6) {
-            self.call(14, &[1]);
+        self.call(14, &[1]);
+        if !self.dice.one_in(4) {
             self.serve();
         }
         self.call(14, &[2]);

@@ -17,6 +17,7 @@ pub struct Script {
     /// A record and FIFO bytes to begin with, or nothing for a fresh start.
     head: Vec<u8>,
     trace: Vec<u8>,
+    published: bool,
 }
 
 /// Document 01's entries, one method each.
@@ -28,7 +29,15 @@ impl Script {
     pub fn behind(head: Vec<u8>) -> Script {
         Script {
             head,
-            trace: Vec::new(),
+            ..Script::default()
+        }
+    }
+
+    /// The original with nothing of document 02.
+    pub fn published() -> Script {
+        Script {
+            published: true,
+            ..Script::default()
         }
     }
 
@@ -155,6 +164,7 @@ impl Script {
         let form = Form {
             detail,
             from_record: !self.head.is_empty(),
+            published: self.published,
         };
         let mut out = Vec::new();
         let input = [&self.head[..], &self.trace[..]].concat();
