@@ -6,7 +6,8 @@
 //! given here, since nothing is lent to these calls.
 //!
 //! What document 02 changes of the original is made here too, beside the call that it changes, and
-//! docs/DIFFERENCES.md lists it. A machine that runs as published leaves it out.
+//! docs/DIFFERENCES.md lists it: reply 18 in front of a read (T-02), the Suspend step behind a poll
+//! (T-06). A machine that runs as published leaves it out.
 
 use crate::alloc_endpoint::{alloc_endpoint, EndpointAllocError};
 use crate::common_impl;
@@ -22,7 +23,7 @@ use usb_device::endpoint::{
 };
 use usb_device::{UsbDirection, UsbError};
 
-/// Document 01's replies other than 0. There is no 10.
+/// Document 01's replies other than 0, and from 18 on document 02's. There is no 10.
 #[derive(Debug, Clone, Copy, PartialEq, Eq)]
 pub enum Refusal {
     EndpointOverflow = 1,
@@ -40,6 +41,7 @@ pub enum Refusal {
     AddressOver127 = 14,
     RecordUnsound = 16,
     OutOfTurn = 17,
+    BufferOverflow = 18,
 }
 
 /// The values of a reply 0.
@@ -49,7 +51,8 @@ pub enum Answer {
     Endpoint(u8),
     Written(usize),
     Stalled(bool),
-    /// The packet's length, and what was stored of it in the caller's buffer.
+    /// The packet's length, and what was stored of it in the caller's buffer: all of it, unless the
+    /// machine runs as published.
     Read(usize, Vec<u8>),
     Collected(Vec<u8>),
     Polled(PollResult),
@@ -243,13 +246,12 @@ impl Machine {
     pub fn read(&mut self, endpoint: u8, buffer: &mut [u8]) -> Outcome {
         self.begin()?;
         let number = known(endpoint)?;
-        // Reply 6 comes before 12 and 13 and is the original's own.
-        if number == 0 && model::with(|m| m.rx[0].ready) {
-            let state = self.private().state;
-            let taken = matches!(state, State::Setup | State::DataOut);
-            refuse_if(!taken, Refusal::ReadOutOfState)?;
-            let eight = model::with(|m| m.rx[0].length == 8) && buffer.len() >= 8;
-            refuse_if(state == State::Setup && !eight, Refusal::SetupNotEight)?;
+        // Reply 6 comes before 12, 13 and 18 and is the original's own.
+        if model::with(|m| m.rx[number].ready) {
+            if number == 0 {
+                self.control_read(buffer.len())?;
+            }
+            refuse_if(self.overflows(number, buffer.len()), Refusal::BufferOverflow)?;
         }
         let count = self
             .driver
@@ -257,6 +259,21 @@ impl Machine {
             .map_err(would_block)?;
         let stored = count.min(buffer.len());
         Ok(Answer::Read(count, buffer[..stored].to_vec()))
+    }
+
+    /// Replies 12 and 13.
+    fn control_read(&self, room: usize) -> Result<(), Refusal> {
+        let state = self.private().state;
+        let taken = matches!(state, State::Setup | State::DataOut);
+        refuse_if(!taken, Refusal::ReadOutOfState)?;
+        let eight = model::with(|m| m.rx[0].length == 8) && room >= 8;
+        refuse_if(state == State::Setup && !eight, Refusal::SetupNotEight)
+    }
+
+    /// T-02: "refuse, keep the packet waiting, touch nothing". The original fills the buffer that is too
+    /// short, says the whole packet's length and drops the packet.
+    fn overflows(&self, number: usize, room: usize) -> bool {
+        !self.published && room < usize::from(model::with(|m| m.rx[number].length))
     }
 
     pub fn stall(&mut self, endpoint: u8, direction: UsbDirection, stalled: bool) -> Outcome {

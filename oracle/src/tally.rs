@@ -6,7 +6,7 @@ use std::fmt;
 use usb_device::bus::PollResult;
 
 const CODES: usize = 18;
-const REPLIES: usize = 18;
+const REPLIES: usize = 19;
 
 #[derive(Debug, Clone, Default)]
 pub struct Tally {

@@ -186,9 +186,68 @@ fn setup_end_begins_the_next_transfer() {
     assert!(script.stores().ends_with("3,0,0 4,0,145"), "{}", script.stores());
 }
 
+/// Document 02, T-02.
 #[test]
-fn read_copies_the_shorter_and_says_the_packets_length() {
+fn a_read_that_is_done_gives_the_whole_packet() {
     let arrived = Script::new().arrival(1, &[1, 2, 3, 4, 5]);
+    for buffer in [5, 6, 64, 512] {
+        let read = arrived.clone().read(1, buffer).read(1, buffer);
+        assert_eq!(read.lasts(2), ["6 0 5 1 2 3 4 5", "6 6"]);
+    }
+    let empty = Script::new().arrival(1, &[]);
+    for buffer in [0, 64] {
+        let read = empty.clone().read(1, buffer).read(1, buffer);
+        assert_eq!(read.lasts(2), ["6 0 0", "6 6"]);
+    }
+}
+
+#[test]
+fn a_refused_packet_is_read_whole_by_the_next_read_with_room() {
+    let row = [11, 12, 13];
+    let refused = Script::new().arrival(5, &row).interrupt().poll().read(5, 2);
+    assert_eq!(refused.lasts(2), ["9 0 1 32 0 0", "6 18"]);
+    assert_eq!(refused.clone().read(5, 3).last(), "6 0 3 11 12 13");
+    // Named by every poll, and in the way of the next packet.
+    let later = refused.poll().arrival(5, &[9]).arrival(1, &[7]).write(5, &[8]);
+    assert_eq!(later.lasts(4), ["9 0 1 32 0 0", "12 17", "12 0", "5 0 1"]);
+    let later = later
+        .interrupt()
+        .read(5, 0)
+        .read(1, 1)
+        .collect(5)
+        .read(5, 2)
+        .poll();
+    assert_eq!(
+        later.lasts(5),
+        ["6 18", "6 0 1 7", "13 0 8", "6 18", "9 0 1 32 0 0"]
+    );
+    let read = later.read(5, 3).poll().arrival(5, &[9]).read(5, 512);
+    assert_eq!(read.lasts(4), ["6 0 3 11 12 13", "9 0 0", "12 0", "6 0 1 9"]);
+}
+
+#[test]
+fn data_out_goes_on_once_there_is_room() {
+    let arrived = Script::new()
+        .control()
+        .request(OUT, 67)
+        .arrival(0, &[1; 64])
+        .interrupt()
+        .poll();
+    let refused = arrived.read(0, 63).poll();
+    assert_eq!(refused.lasts(2), ["6 18", "9 0 1 1 0 0"]);
+    assert_eq!(refused.state(), DATA_OUT);
+    let last = refused.read(0, 64).arrival(0, &[2, 3, 4]).interrupt().poll();
+    assert_eq!(last.last(), "9 0 1 1 0 0");
+    assert_eq!(last.clone().read(0, 2).state(), DATA_OUT);
+    let ended = last.read(0, 2).read(0, 3);
+    assert_eq!(ended.lasts(2), ["6 18", "6 0 3 2 3 4"]);
+    assert_eq!(ended.state(), IDLE);
+}
+
+/// What T-02 changes.
+#[test]
+fn the_original_as_published_cuts_the_packet() {
+    let arrived = Script::published().arrival(1, &[1, 2, 3, 4, 5]);
     assert_eq!(arrived.clone().read(1, 3).last(), "6 0 5 1 2 3");
     assert_eq!(arrived.clone().read(1, 0).last(), "6 0 5");
     assert_eq!(arrived.read(1, 0).read(1, 64).last(), "6 6");

@@ -125,8 +125,68 @@ fn setup_read_wants_eight_and_eight() {
     for length in [0, 7, 9, 64] {
         record[of(0, RX_LENGTH)] = length;
         let other = Script::behind(head_of(&record, &[0; FIFO_BYTES]));
-        assert_eq!(other.read(0, 64).last(), "6 13");
+        for buffer in [0, 8, 64] {
+            assert_eq!(other.clone().read(0, buffer).last(), "6 13");
+        }
     }
+}
+
+/// Document 02, T-02.
+#[test]
+fn read_into_a_buffer_shorter_than_the_packet() {
+    for (endpoint, area) in [(1, 64), (2, 128), (4, 64), (5, 512)] {
+        for length in [1, 8, area - 1, area] {
+            // Another endpoint is selected, so that a selection would be seen.
+            let waiting = Script::new()
+                .arrival(endpoint, &vec![7; length as usize])
+                .ask_stalled(3, IN);
+            refused(&waiting, |s| s.read(endpoint, 0), "6 18");
+            refused(&waiting, |s| s.read(endpoint, length - 1), "6 18");
+            let whole = waiting.read(endpoint, length).last();
+            assert_eq!(whole, format!("6 0 {length}") + &" 7".repeat(length as usize));
+        }
+    }
+}
+
+#[test]
+fn data_out_read_into_a_buffer_shorter_than_the_packet() {
+    let started = Script::new().control().request(OUT, 100);
+    for length in [1, 8, 63, 64] {
+        let waiting = started
+            .clone()
+            .arrival(0, &vec![7; length as usize])
+            .ask_stalled(3, IN);
+        refused(&waiting, |s| s.read(0, 0), "6 18");
+        refused(&waiting, |s| s.read(0, length - 1), "6 18");
+        assert_eq!(waiting.read(0, length - 1).state(), DATA_OUT);
+    }
+}
+
+#[test]
+fn read_tests_16_8_6_12_13_then_18() {
+    let packet = [0; 8];
+    assert_eq!(Script::new().arrival(5, &packet).read(6, 0).last(), "6 8");
+    assert_eq!(Script::new().arrival(5, &packet).read(4, 0).last(), "6 6");
+    refused(&Script::new().arrival(0, &packet), |s| s.read(0, 0), "6 12");
+    refused(&Script::new().setup(OUT, 5), |s| s.read(0, 0), "6 13");
+    let mut record = record_of(&Machine::fresh());
+    record[of(5, RXCSRL)] = 1;
+    record[of(5, RX_LENGTH)] = 513;
+    let unsound = Script::behind(head_of(&record, &[0; FIFO_BYTES]));
+    assert_eq!(unsound.read(5, 512).last(), "6 16");
+}
+
+#[test]
+fn a_read_refused_for_its_buffer_touches_no_byte() {
+    let mut machine = Machine::fresh();
+    machine.arrival(1, &[1, 2, 3]).unwrap();
+    let (record, fifo) = (record_of(&machine), machine.model(|m| m.fifo));
+    let mut buffer = [255; 2];
+    assert_eq!(machine.read(1, &mut buffer), Err(Refusal::BufferOverflow));
+    assert_eq!(buffer, [255; 2]);
+    assert_eq!(record_of(&machine), record);
+    assert_eq!(machine.model(|m| m.fifo), fifo);
+    assert!(machine.model(|m| m.stores.is_empty()));
 }
 
 #[test]
@@ -228,7 +288,7 @@ fn waiting_lengths_at_their_area_are_sound() {
     record[of(2, RX_LENGTH)] = 128;
     let sound = Script::behind(head_of(&record, &[7; FIFO_BYTES]));
     assert!(sound.clone().collect(5).last().starts_with("13 0 7 7"));
-    assert!(sound.read(2, 3).last().starts_with("6 0 128 7 7 7"));
+    assert!(sound.read(2, 128).last().starts_with("6 0 128 7 7 7"));
     record[of(5, TX_LENGTH)] = 513;
     assert_eq!(
         Script::behind(head_of(&record, &[7; FIFO_BYTES])).poll().last(),

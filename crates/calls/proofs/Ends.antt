@@ -223,7 +223,7 @@ module _ (k : Record) (e : ℕ) (b f l : List ℕ) where
   write-is = writes.call-is k e b f l ∙ ap writeOf (tests-are k e (length b) (length f) (length l))
 
   abbrev readTests : Verdict
-  readTests = testsBy first (read-call.ownTests (read-cases.nothingWaits k e) (read-cases.notReadable k e) (read-cases.notSetup k e (length b)))
+  readTests = testsBy first (read-call.ownTests (read-cases.nothingWaits k e) (read-cases.notReadable k e) (read-cases.notSetup k e (length b)) (read-cases.overflows k e (length b)))
 
   read-is : readCall k e b f l ≡ reads.tested k e b f l readTests
   read-is = reads.by-tests k e b f l ∙ ap (reads.tested k e b f l) (read-told k e (length b) (length f) (length l))
@@ -253,13 +253,14 @@ module _ (k : Record) where
   read-ends e b f l g = subst (λ (o : ReadOutcome). Ends k (read e b f l) (fetched o)) (sym (read-is k e b f l)) (go g)
     where
       go : {x : ℕ} → read-cases.ReadCase k e (length b) (length f) (length l) x → Ends k (read e b f l) (fetched (reads.tested k e b f l (readTests k e b f l)))
-      go (read-cases.done a s t u) =
-          done refl (ap (λ (o : ReadOutcome). readNumber (o .result .answer)) (sym (read-is k e b f l)) ∙ reads.exactly k e b f l 0 .1 (read-cases.done a s t u))
+      go (read-cases.done a s t u v) =
+          done refl (ap (λ (o : ReadOutcome). readNumber (o .result .answer)) (sym (read-is k e b f l)) ∙ reads.exactly k e b f l 0 .1 (read-cases.done a s t u v))
       go (read-cases.blocks a s) =
           rw (a .lent, a .passes, a .there, s) (blocked e (reading e b f l) refl (blocks k e l [] b (lent-enough k (length f) (length l) (a .lent) .1)))
       go (read-cases.beyond p q r) = rw (p, q, r) (refused 8 refl refl refl)
       go (read-cases.unreadable a s t) = rw (a .lent, a .passes, a .there, s, t) (refused 12 refl refl refl)
       go (read-cases.unset a s t u) = rw (a .lent, a .passes, a .there, s, t, u) (refused 13 refl refl refl)
+      go (read-cases.cut a s t u v) = rw (a .lent, a .passes, a .there, s, t, u, v) (refused 18 refl refl refl)
       go (read-cases.little p) = rw p (refused 15 refl refl refl)
       go (read-cases.unsound p q) = rw (p, q) (refused 16 refl refl refl)
 

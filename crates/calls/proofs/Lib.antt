@@ -14,3 +14,4 @@ pub mod Lengths
 pub mod Ends
 pub mod Demand
 pub mod Listed
+pub mod Memory

@@ -21,7 +21,7 @@ use Rattle.transfer_rules.specs.Peek.{short, testsBy, After, after, leaving, bl
 use Rattle.transfer_rules.specs.ReadZero.{wLength, setUp, rxSize, dataOut, zeroBy, readZero}
 use Rattle.transfer_rules.specs.ReadTests.{ownTests}
 use Rattle.transfer_rules.specs.Read.{ReadOutcome, readOther, got, readDone, readCall}
-use Rattle.transfer_rules.proofs.ReadCases.{nothingWaits, notReadable, notSetup, ReadCase, done as granted, blocks, beyond, unreadable, unset, little, unsound}
+use Rattle.transfer_rules.proofs.ReadCases.{nothingWaits, notReadable, notSetup, overflows, ReadCase, done as granted, blocks, beyond, unreadable, unset, cut, little, unsound}
 use Rattle.transfer_rules.proofs.ReadVerdicts.{told}
 use Rattle.transfer_rules.proofs.ReadAnswers.{tested, by-tests, exactly}
 use Rattle.calls.proofs.Steps.{Reached, none, then, within, one, Gentle, Careful, careful-gentle}
@@ -85,7 +85,7 @@ module _ (k : Record) (ep : ℕ) (b f l : List ℕ) where
   abbrev pub tests : Verdict
   tests =
       testsBy (admissionBy (short k (length f) (length l)) (recordSound k) (leb (endpointsOf k) ep))
-      (ownTests (nothingWaits k ep) (notReadable k ep) (notSetup k ep (length b)))
+      (ownTests (nothingWaits k ep) (notReadable k ep) (notSetup k ep (length b)) (overflows k ep (length b)))
 
   abbrev Accounted : ReadOutcome → Type 0
   Accounted o = Account (Gentle (k .regs .board)) k l (o .result .«record») (o .list) (o .result .stores)
@@ -93,7 +93,7 @@ module _ (k : Record) (ep : ℕ) (b f l : List ℕ) where
   -- by the row of the reply that is given
   by-row : {m : ℕ} → ReadCase k ep (length b) (length f) (length l) m → Accounted (tested k ep b f l tests)
   unfolding readDone blocked
-  by-row (granted a s t u) = rw (a .lent, a .passes, a .there, s, t, u) (gets k ep _ l (lent-passes k f l (a .passes) (a .lent)) (there k ep (a .there)) _ (rxSize k))
+  by-row (granted a s t u v) = rw (a .lent, a .passes, a .there, s, t, u, v) (gets k ep _ l (lent-passes k f l (a .passes) (a .lent)) (there k ep (a .there)) _ (rxSize k))
   by-row (blocks a s) =
       let p = lent-passes k f l (a .passes) (a .lent) in
       rw (a .lent, a .passes, a .there, s)
@@ -101,6 +101,7 @@ module _ (k : Record) (ep : ℕ) (b f l : List ℕ) where
   by-row (beyond p q r) = rw (p, q, r) (left refl refl)
   by-row (unreadable a s t) = rw (a .lent, a .passes, a .there, s, t) (left refl refl)
   by-row (unset a s t u) = rw (a .lent, a .passes, a .there, s, t, u) (left refl refl)
+  by-row (cut a s t u v) = rw (a .lent, a .passes, a .there, s, t, u, v) (left refl refl)
   by-row (little p) = rw p (left refl refl)
   by-row (unsound p q) = rw (p, q) (left refl refl)
 

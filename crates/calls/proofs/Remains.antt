@@ -29,7 +29,7 @@ use Rattle.call_rules.specs.Stall.{epStall, afterStall, setStalledCall}
 use Rattle.transfer_rules.specs.Peek.{leaving, blocked}
 use Rattle.transfer_rules.specs.ReadZero.{readNumber, rxSize, readZero}
 use Rattle.transfer_rules.specs.Read.{ReadOutcome, readOther, got, readDone, readCall}
-use Rattle.transfer_rules.proofs.ReadCases.{ReadCase, done as granted, blocks, beyond as too-high, unreadable, unset, little, unsound}
+use Rattle.transfer_rules.proofs.ReadCases.{ReadCase, done as granted, blocks, beyond as too-high, unreadable, unset, cut, little, unsound}
 use Rattle.transfer_rules.proofs.ReadVerdicts.{told}
 use Rattle.transfer_rules.proofs.ReadAnswers.{tested, by-tests, exactly}
 use Rattle.call_rules.specs.Interrupt.{interrupted, interruptCall}
@@ -161,7 +161,7 @@ module _ (k : Record) where
 
       by-row : {m : ℕ} → ReadCase k i (length b) (length f) (length l) m → Remain (λ e. eqb m 0 && eqb e i) k (tested k i b f l (tests k i b f l) .result .«record»)
       unfolding readDone blocked
-      by-row (granted a s t u) = rw (a .lent, a .passes, a .there, s, t, u) (gets-remain _ _ (rxSize k) (lent-passes k f l (a .passes) (a .lent)) (there k i (a .there)))
+      by-row (granted a s t u v) = rw (a .lent, a .passes, a .there, s, t, u, v) (gets-remain _ _ (rxSize k) (lent-passes k f l (a .passes) (a .lent)) (there k i (a .there)))
       by-row (blocks a s) =
           let p = lent-passes k f l (a .passes) (a .lent) in
           rw (a .lent, a .passes, a .there, s)
@@ -169,6 +169,7 @@ module _ (k : Record) where
       by-row (too-high p q r) = rw (p, q, r) (unmoved refl)
       by-row (unreadable a s t) = rw (a .lent, a .passes, a .there, s, t) (unmoved refl)
       by-row (unset a s t u) = rw (a .lent, a .passes, a .there, s, t, u) (unmoved refl)
+      by-row (cut a s t u v) = rw (a .lent, a .passes, a .there, s, t, u, v) (unmoved refl)
       by-row (little p) = rw p (unmoved refl)
       by-row (unsound p q) = rw (p, q) (unmoved refl)
 

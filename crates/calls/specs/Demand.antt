@@ -16,8 +16,9 @@ use Rattle.record.specs.declared.Record.{Record}
 use Rattle.record.specs.Record.{withRegs}
 use Rattle.calls.specs.Calls.{Op, allocEp, busInit, enable, reset, setDeviceAddress, write, read, setStalled, isStalled, poll, onInterrupt, forceReset, arrival, collection, busReset, suspend, resume, setupEnd, underrun, overrun, Outcome, outcome}
 
--- document 01's table, by operation: the refusals in the order of their tests, and 0 where none is given.
--- "Order: 15, 16, 8, then write 6, 9, 11; read 6, 12, 13; arrival 9, 17; address 14; allocation 2, 5, 3, 4."
+-- document 01's table and document 02's, by operation: the refusals in the order of their tests, and 0 where none is given.
+-- "Order: 15, 16, 8, then write 6, 9, 11; read 6, 12, 13; arrival 9, 17; address 14; allocation 2, 5, 3, 4." Document 02, T-02: "reply 18, after
+-- 13 in a read".
 -- "wanted number 0 is never checked"; reply 1 is given where no number is wanted.
 -- The list is a bound: exactly when each number is given is said by the laws of the call's own crate.
 abbrev pub allocReplies : Wanted → List ℕ
@@ -32,7 +33,7 @@ replies (enable l) = 15 ∷ 16 ∷ 0 ∷ []
 replies (reset l) = 15 ∷ 16 ∷ 0 ∷ []
 replies (setDeviceAddress a l) = 15 ∷ 16 ∷ 14 ∷ 0 ∷ []
 replies (write e b f l) = 15 ∷ 16 ∷ 8 ∷ 6 ∷ 9 ∷ 11 ∷ 0 ∷ []
-replies (read e b f l) = 15 ∷ 16 ∷ 8 ∷ 6 ∷ 12 ∷ 13 ∷ 0 ∷ []
+replies (read e b f l) = 15 ∷ 16 ∷ 8 ∷ 6 ∷ 12 ∷ 13 ∷ 18 ∷ 0 ∷ []
 replies (setStalled e d s l) = 15 ∷ 16 ∷ 8 ∷ 0 ∷ []
 replies (isStalled e d l) = 15 ∷ 16 ∷ 8 ∷ 0 ∷ []
 replies (poll l) = 15 ∷ 16 ∷ 0 ∷ []

@@ -1,7 +1,7 @@
 // FIFO memory: one lent buffer. A packet goes to the part of it that begins at the endpoint's area.
 use board::Span;
 ghost use mathlib.Core.Path.{_≡_};
-ghost use Prim.Native.Nat.{_+_, _≤_, min};
+ghost use Prim.Native.Nat.{_+_, _≤_};
 ghost use lib.ListN.{length, take, drop};
 ghost use Rattle.laws.specs.Lists.{pasted};
 
@@ -26,19 +26,12 @@ pub fn put_bytes(fifo: &mut [u8], area: Span, bytes: &[u8])
     copy_in(&mut fifo[at..], bytes);
 }
 
-fn lesser(a: usize, b: usize) -> usize
-    ensures { λ r. ⌜ r ≡ min a b ⌝ }
-{
-    if a < b { a } else { b }
-}
-
-// Copies a packet of n bytes out of its area: the shorter of it and buf, to the front of buf.
+// Copies a packet of n bytes out of its area, to the front of buf.
 pub fn take_bytes(fifo: &[u8], area: Span, n: usize, buf: &mut [u8])
-    requires { ⌜ (n ≤ area .size) × (area .start + area .size ≤ length (now fifo)) ⌝ }
-    ensures { λ _. ⌜ now (buf .exit) ≡ pasted (now (buf .entry)) 0 (take (min n (length (now (buf .entry)))) (drop (area .start) (now (fifo .entry)))) ⌝ }
+    requires { ⌜ (n ≤ area .size) × (area .start + area .size ≤ length (now fifo)) × (n ≤ length (now buf)) ⌝ }
+    ensures { λ _. ⌜ now (buf .exit) ≡ pasted (now (buf .entry)) 0 (take n (drop (area .start) (now (fifo .entry)))) ⌝ }
 {
     let start = area.start;
-    let m = lesser(n, buf.len());
-    let end = start + m;
+    let end = start + n;
     copy_in(buf, &fifo[start..end]);
 }

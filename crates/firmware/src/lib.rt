@@ -121,7 +121,7 @@ fn read_if(
     let answer = r.answer;
     match answer {
         ReadAnswer::Done(n) => chip::received(ep, buf, n),
-        // 6: named, and read already; 12, 13: the packet still waits
+        // 6: named, and read already; 12, 13, 18: the packet still waits
         ReadAnswer::Refused(_) => {}
     }
     r.record

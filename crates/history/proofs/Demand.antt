@@ -87,7 +87,7 @@ module _ (b : Board) where
   pub same-length : SameLength (driver b)
   same-length =
       record {
-        arrived = λ e ep h o. arrives-long b (after (driver b) h) (good-after lawful h) e ep o;
+        arrived = λ e ep h o. arrives-long b (after (driver b) h) (good-after lawful h) e o;
         waits = λ e ep h o. stays-long b (after (driver b) h) (good-after lawful h) e ep o;
       }
 
@@ -114,7 +114,7 @@ module _ (b : Board) where
             let k = after (driver b) h in
             let g = good-after lawful h in
             subst (λ (o : Op). T (takes k o e)) (sym (q .is))
-            (read-answered k e (q .buffer) (q .fifo) (q .list) (high b k g e ep) (passes h) (counted b k g e ep) (q .lent) (q .lent′) w);
+            (read-answered k e (q .buffer) (q .fifo) (q .list) (high b k g e ep) (passes h) (counted b k g e ep) (q .lent) (q .lent′) (q .room) w);
       }
     where
       passes : (h : List Op) → recordSound (after (driver b) h) ≡ true

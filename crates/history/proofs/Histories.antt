@@ -102,7 +102,7 @@ record Computed : Type 0 where
   wakes : names 5 (says (asleep ++ poll ∷ [])) ≡ true
 
 computed : Computed
-unfolding bit raised clear bitsBelow setBits freshFile freshRegs index withIndex intrusb withIntrusb intrOf withIntr sideWord sideOf sideIn withSideIn sideAt withSide csr0lRead txcsrlOf rxcsrlOf txStored rxStored txcsrlSet rxcsrlSet dropped listed listing withOwn writeIndex writeTxcsrl writeRxcsrl modifyTxcsrl modifyRxcsrl writePacket interrupting waitingAt arrived collected busRaised busReset busResume busSuspend intrusbCleared intrCleared underRunCleared overRunCleared repaired numbers repairedBelow freshRecord write.ownTestsAt write.notWritable write-write.writeDone write-write.loaded write-write.sent write-write.sentOther read.ownTestsAt read.notReadable read.notSetup read-read.readDone read-read.got read-read.readOther collectedFrom snapshotOf cleared busTaken raisedIf endpointTaken endpointsTaken taken endpointZero acceptedBy acceptStep readyAt drained visit walked told ended walkedOn acceptedOn roundOut pollLogged
+unfolding bit raised clear bitsBelow setBits freshFile freshRegs index withIndex intrusb withIntrusb intrOf withIntr sideWord sideOf sideIn withSideIn sideAt withSide csr0lRead txcsrlOf rxcsrlOf txStored rxStored txcsrlSet rxcsrlSet dropped listed listing withOwn writeIndex writeTxcsrl writeRxcsrl modifyTxcsrl modifyRxcsrl writePacket interrupting waitingAt arrived collected busRaised busReset busResume busSuspend intrusbCleared intrCleared underRunCleared overRunCleared repaired numbers repairedBelow freshRecord write.ownTestsAt write.notWritable write-write.writeDone write-write.loaded write-write.sent write-write.sentOther read.ownTestsAt read.notReadable read.notSetup read.overflows read-read.readDone read-read.got read-read.readOther collectedFrom snapshotOf cleared busTaken raisedIf endpointTaken endpointsTaken taken endpointZero acceptedBy acceptStep readyAt drained visit walked told ended walkedOn acceptedOn roundOut pollLogged
 computed =
     record {
       waits = record { arrived = tt; still = (tt, (tt, (tt, tt))); taken = tt; polled = tt };

@@ -1,4 +1,4 @@
--- Over every operation: what waits at endpoints 1 to 5 has the length that it arrived with. Assumes nothing.
+-- Over every operation: what waits has the length that it arrived with. Assumes nothing.
 use mathlib.Core.Path.{_≡_, refl, sym, ap, subst, _∙_}
 use mathlib.Core.Bool.{Bool, true, false, not, cond, _&&_}
 use mathlib.Core.List.{List}
@@ -36,7 +36,7 @@ up : (b : Bool) → T b → b ≡ true
 up true t = refl
 up false t = absurd t
 
-module _ (b : Board) (k : Record) (kept : Kept b k) (e : ℕ) (ep : Endpoint (driver b) e) where
+module _ (b : Board) (k : Record) (kept : Kept b k) (e : ℕ) where
   -- an arrival: what came is as long as it came, and what waited elsewhere as it was
   module _ (i : ℕ) (bytes f : List ℕ) where
     abbrev side : Bool → Side
@@ -94,30 +94,38 @@ module _ (b : Board) (k : Record) (kept : Kept b k) (e : ℕ) (ep : Endpoint (dr
   arrives-long (overrun i) t = absurd t
 
   -- a call that stores: what is still there is as long
-  stored : (o : Op) → Stores o → T (waiting k e) → T (not (takes k o e)) → lengthAt (step k o) e ≡ lengthAt k e
-  stored o c w n =
-      call-lasting k o (kept .good) c e .len
-      (lasts b k kept e ep o
-      ∙ up _ (or-right (arrivesAt e (event k o)) (waiting k e && not (takes k o e)) (and-both (waiting k e) (not (takes k o e)) w n)))
+  stored : (o : Op) → Stores o → T (waiting (step k o) e) → lengthAt (step k o) e ≡ lengthAt k e
+  stored o c v = call-lasting k o (kept .good) c e .len (up _ v)
 
-  pub stays-long : (o : Op) → T (waiting k e) → T (not (takes k o e)) → lengthAt (step k o) e ≡ lengthAt k e
-  stays-long (arrival i x f) w n = arrival-stays i x f w
-  stays-long onInterrupt w n = interrupt-keeps k e
-  stays-long (allocEp q v) w n = stored (allocEp q v) tt w n
-  stays-long (busInit l) w n = stored (busInit l) tt w n
-  stays-long (enable l) w n = stored (enable l) tt w n
-  stays-long (reset l) w n = stored (reset l) tt w n
-  stays-long (setDeviceAddress a l) w n = stored (setDeviceAddress a l) tt w n
-  stays-long (write i x f l) w n = stored (write i x f l) tt w n
-  stays-long (read i x f l) w n = stored (read i x f l) tt w n
-  stays-long (setStalled i d s l) w n = stored (setStalled i d s l) tt w n
-  stays-long (isStalled i d l) w n = stored (isStalled i d l) tt w n
-  stays-long (poll l) w n = stored (poll l) tt w n
-  stays-long forceReset w n = refl
-  stays-long (collection i f) w n = event-keeps k (kept .good .six) (happening.collection-comes k i f) tt e
-  stays-long busReset w n = event-keeps k (kept .good .six) (happening.bus-reset k) tt e
-  stays-long suspend w n = event-keeps k (kept .good .six) (happening.bus-suspend k) tt e
-  stays-long resume w n = event-keeps k (kept .good .six) (happening.bus-resume k) tt e
-  stays-long setupEnd w n = event-keeps k (kept .good .six) (happening.setup-end k) tt e
-  stays-long (underrun i) w n = event-keeps k (kept .good .six) (happening.underrun k i) tt e
-  stays-long (overrun i) w n = event-keeps k (kept .good .six) (happening.overrun k i) tt e
+  -- at any endpoint, 0 too, what waits before an operation and after it
+  pub still-long : (o : Op) → T (waiting k e) → T (waiting (step k o) e) → lengthAt (step k o) e ≡ lengthAt k e
+  still-long (arrival i x f) w t = arrival-stays i x f w
+  still-long onInterrupt w t = interrupt-keeps k e
+  still-long (allocEp q v) w t = stored (allocEp q v) tt t
+  still-long (busInit l) w t = stored (busInit l) tt t
+  still-long (enable l) w t = stored (enable l) tt t
+  still-long (reset l) w t = stored (reset l) tt t
+  still-long (setDeviceAddress a l) w t = stored (setDeviceAddress a l) tt t
+  still-long (write i x f l) w t = stored (write i x f l) tt t
+  still-long (read i x f l) w t = stored (read i x f l) tt t
+  still-long (setStalled i d s l) w t = stored (setStalled i d s l) tt t
+  still-long (isStalled i d l) w t = stored (isStalled i d l) tt t
+  still-long (poll l) w t = stored (poll l) tt t
+  still-long forceReset w t = refl
+  still-long (collection i f) w t = event-keeps k (kept .good .six) (happening.collection-comes k i f) tt e
+  still-long busReset w t = event-keeps k (kept .good .six) (happening.bus-reset k) tt e
+  still-long suspend w t = event-keeps k (kept .good .six) (happening.bus-suspend k) tt e
+  still-long resume w t = event-keeps k (kept .good .six) (happening.bus-resume k) tt e
+  still-long setupEnd w t = event-keeps k (kept .good .six) (happening.setup-end k) tt e
+  still-long (underrun i) w t = event-keeps k (kept .good .six) (happening.underrun k i) tt e
+  still-long (overrun i) w t = event-keeps k (kept .good .six) (happening.overrun k i) tt e
+
+  -- at 1 to 5, what waits and is not taken
+  module _ (ep : Endpoint (driver b) e) where
+    pub still-there : (o : Op) → T (waiting k e) → T (not (takes k o e)) → T (waiting (step k o) e)
+    still-there o w n =
+        subst T (sym (lasts b k kept e ep o))
+        (or-right (arrivesAt e (event k o)) (waiting k e && not (takes k o e)) (and-both (waiting k e) (not (takes k o e)) w n))
+
+    pub stays-long : (o : Op) → T (waiting k e) → T (not (takes k o e)) → lengthAt (step k o) e ≡ lengthAt k e
+    stays-long o w n = still-long o w (still-there o w n)

@@ -10,6 +10,7 @@ pub mod Packets
 pub mod Lengths
 pub mod Fetching
 pub mod Demand
+pub mod Whole
 pub mod Sample
 pub mod Histories
 pub mod Demands

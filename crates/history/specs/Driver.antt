@@ -169,7 +169,8 @@ pub record LentArrival (k : Record) (e : ℕ) (o : Op) : Type 0 where
   pub fits : length bytes ≤ areaOf k e Out .size
   pub lent : needOf k ≤ length fifo
 
--- a read at an endpoint, into a buffer of any length, lent 128 stores and the FIFO buffer that the board needs
+-- a read at an endpoint, lent 128 stores, the FIFO buffer that the board needs, and a buffer with room for the packet that waits there (else the
+-- read is refused by 18, and the packet waits on)
 pub record LentRead (k : Record) (e : ℕ) (o : Op) : Type 0 where
   pub buffer : List ℕ
   pub fifo : List ℕ
@@ -177,6 +178,7 @@ pub record LentRead (k : Record) (e : ℕ) (o : Op) : Type 0 where
   pub is : o ≡ read e buffer fifo list
   pub lent : needOf k ≤ length fifo
   pub lent′ : 384 ≤ length list
+  pub room : lengthAt k e ≤ length buffer
 
 abbrev pub calls : (b : Board) → Calls (driver b)
 calls b = record {

@@ -1,2 +1,3 @@
 pub mod Driver
 pub mod Demands
+pub mod Whole

@@ -22,7 +22,7 @@ use Rattle.host_rules.specs.Host.{entryAt, arrivalRefusalIn, arrivalRefu
 use Rattle.host_rules.proofs.Host.{admitted, arrival-passed}
 
 module _ (k : Record) (e : ℕ) (b f : List ℕ) where
-  fills-clear : arrivalRefusal k e (length b) (length f) ≡ Clear → Fills (areaOf k e Out) b f (pasted f (areaOf k e Out .start) b)
+  pub fills-clear : arrivalRefusal k e (length b) (length f) ≡ Clear → Fills (areaOf k e Out) b f (pasted f (areaOf k e Out .start) b)
   unfolding arrivalRefusal arrivalRefusalIn areaOf
   fills-clear c =
       let (p, short, _) = arrival-passed (entryAt k e (length f)) (ltb (areaIn (k .regs .board) e Out .size) (length b)) (sideAt (k .regs .words) e Out .ready) c in

@@ -20,7 +20,7 @@ use Rattle.endpoints.specs.declared.EndpointData.{EndpointData}
 use Rattle.control_state.specs.declared.ControlState.{ControlState}
 use Rattle.record.specs.declared.Flags.{Flags}
 use Rattle.record.specs.declared.Refusal.{Refusal}
-use Rattle.record.specs.declared.Refusal.the-variants.{WouldBlock, Unsupported, NoSuchEndpoint, TooLong, NotWritable, NotReadable, NotSetup, BadAddress, TooLittleLent, BadRecord, OutOfTurn}
+use Rattle.record.specs.declared.Refusal.the-variants.{WouldBlock, Unsupported, NoSuchEndpoint, TooLong, NotWritable, NotReadable, NotSetup, BadAddress, TooLittleLent, BadRecord, OutOfTurn, BufferOverflow}
 use Rattle.record.specs.declared.Reply.{Reply}
 use Rattle.record.specs.declared.Reply.the-variants as reply
 use Rattle.record.specs.declared.Admission.{Admission}
@@ -80,7 +80,7 @@ pub record SoundRecord (k : Record) : Type 0 where
   pub tx : k .irq .«ep_tx» < 2 ^ length (rows (k .regs .board))
   pub rx : k .irq .«ep_rx» < 2 ^ length (rows (k .regs .board))
 
--- document 01's reply numbers
+-- document 01's reply numbers, and document 02's 18
 abbrev pub refusalNumber : Refusal → ℕ
 refusalNumber WouldBlock = 6
 refusalNumber Unsupported = 7
@@ -93,6 +93,7 @@ refusalNumber BadAddress = 14
 refusalNumber TooLittleLent = 15
 refusalNumber BadRecord = 16
 refusalNumber OutOfTurn = 17
+refusalNumber BufferOverflow = 18
 
 -- document 01's number of an answer without a value
 abbrev pub replyNumber : Reply → ℕ

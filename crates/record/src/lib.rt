@@ -22,7 +22,7 @@ pub struct Record {
     pub irq: Flags,
 }
 
-// Why a call is refused: document 01's replies 6 to 17. (Replies 1 to 5 are alloc_endpoint's own.)
+// Why a call is refused: document 01's replies 6 to 17, and document 02's from 18 on. (Replies 1 to 5 are alloc_endpoint's own.)
 pub enum Refusal {
     // 6: write, and the last packet is not collected; read, and none waits
     WouldBlock,
@@ -46,6 +46,8 @@ pub enum Refusal {
     BadRecord,
     // 17: arrival while one waits, collection with none
     OutOfTurn,
+    // 18: the caller's buffer is shorter than the packet that waits; the trait's name for it
+    BufferOverflow,
 }
 
 // The answer of a call or event that has no value.

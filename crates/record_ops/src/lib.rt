@@ -27,6 +27,7 @@ pub fn refusal_number(x: Refusal) -> u8
         Refusal::TooLittleLent => 15,
         Refusal::BadRecord => 16,
         Refusal::OutOfTurn => 17,
+        Refusal::BufferOverflow => 18,
     }
 }
 

@@ -4,16 +4,12 @@ use Prim.Native.Nat.{ℕ, zero, suc, _+_, _-_, _≤_}
 use native.Mathlib.Omega.{arith}
 use native.Mathlib.Nat.{add-sub-cancel-left}
 use mathlib.Core.Path.{_≡_, refl, sym, ap, subst, _∙_}
-use mathlib.Core.Bool.{true, false}
 use mathlib.Core.List.{List, [], _∷_}
 use lib.ListN.{length, take, drop, replicate, length-take, length-drop, length-replicate}
 use Rattle.board.specs.declared.Direction.the-variants.{Out}
 use Rattle.record.specs.declared.Record.{Record}
-use Rattle.record.specs.Record.{recordSound, replyNumber}
-use Rattle.record.proofs.Areas.{area-within}
-use Rattle.record.proofs.Passing.{record-is-sound, waiting-fits}
-use Rattle.transfer_rules.specs.Peek.{short}
-use Rattle.transfer_rules.proofs.Lent.{lent-enough}
+use Rattle.record.specs.Record.{replyNumber}
+use Rattle.register_file.specs.Registers.{sideAt}
 use Rattle.call_rules.specs.declared.AllocCalled.{AllocCalled}
 use Rattle.call_rules.specs.declared.Called.{Called}
 use Rattle.call_rules.specs.declared.StalledCalled.{StalledCalled}
@@ -30,10 +26,8 @@ use Rattle.transfer_rules.specs.declared.ReadAnswer.{ReadAnswer}
 use Rattle.transfer_rules.specs.declared.ReadAnswer.the-variants as got
 use Rattle.transfer_rules.specs.declared.ReadCalled.{ReadCalled}
 use Rattle.transfer_rules.specs.Read.{ReadOutcome, readCall}
-use Rattle.transfer_rules.proofs.ReadCases.{ReadCase, done as granted}
 use Rattle.transfer_rules.specs.ReadZero.{readNumber, readValues}
-use Rattle.transfer_rules.specs.ReadTests.{waiting}
-use Rattle.transfer_rules.proofs.ReadAnswers as read-answers
+use Rattle.transfer_rules.proofs.Transfers.{copies}
 use Rattle.round_rules.specs.declared.PollCalled.{PollCalled}
 use Rattle.round_rules.specs.Poll.{PollOutcome, pollNumber, pollValues}
 use Rattle.record.specs.declared.Answered.{Answered}
@@ -161,27 +155,18 @@ wrote-fits k ep s start n f l {x} e h = go (x .answer) (λ i. e i .result .answe
         omega (arith, h, write-answers.value k ep p f l m (sym q), length-take (start + n - start) (drop start s), length-drop start s)
     go (wrote.Refused z) q = tt
 
--- a read's count is the waiting packet's length, and a record that passes reply 16 holds no packet longer than its area
+-- a read that is done has its whole packet in the buffer
 module _ (k : Record) (ep : ℕ) (buf f l : List ℕ) where
-  waiting-in : short k (length f) (length l) ≡ false → recordSound k ≡ true → waiting k ep ≤ length f
-  unfolding waiting
-  waiting-in s p =
-      let fits = waiting-fits k (record-is-sound k p) ep Out in
-      let in-area = area-within k ep Out in
-      let lent = lent-enough k (length f) (length l) s in
-      omega (arith, fits, in-area, lent .0)
-
-  count-in : (n : ℕ) → readCall k ep buf f l .result .answer ≡ got.Done n → n ≤ length f
-  count-in n e = go (read-answers.exactly k ep buf f l 0 .0 (ap readNumber e))
+  pub got-fits : {x : ReadCalled} {l′ buf′ : List ℕ} → record { result = x; list = l′; buf = buf′ } ≡ readCall k ep buf f l → length buf ≤ 512 → readFits (x .answer) buf′
+  got-fits {x} {l′} {buf′} e h = go (x .answer) (λ i. e i .result .answer)
     where
-      go : ReadCase k ep (length buf) (length f) (length l) 0 → n ≤ length f
-      go (granted a s t u) = omega (arith, read-answers.value k ep buf f l n e, waiting-in (a .lent) (a .passes))
-
-  pub got-fits : {x : ReadCalled} {l′ buf′ : List ℕ} → record { result = x; list = l′; buf = buf′ } ≡ readCall k ep buf f l → length f ≤ 2000 → readFits (x .answer)
-  got-fits {x} e h = go (x .answer) (λ i. e i .result .answer)
-    where
-      go : (y : ReadAnswer) → y ≡ readCall k ep buf f l .result .answer → readFits y
-      go (got.Done n) q = omega (arith, h, count-in n (sym q))
+      go : (y : ReadAnswer) → y ≡ readCall k ep buf f l .result .answer → readFits y buf′
+      go (got.Done n) q =
+          let c = copies k ep buf f l (ap readNumber (sym q)) in
+          let said = c .said in
+          let is : n ≡ sideAt (k .regs .words) ep Out .len = cc in
+          let whole : length buf′ ≡ length buf = ap (λ (o : ReadOutcome). length (o .buf)) e ∙ c .whole in
+          (omega (arith, is, c .room, whole), omega (arith, is, c .room, h))
       go (got.Refused z) q = tt
 
 -- the buffer of a read: the front of 512 zeros

@@ -6,11 +6,11 @@ use mathlib.Core.List.{List, _∷_}
 use Rattle.record.specs.declared.Record.{Record}
 use Rattle.calls.specs.Calls.{Op, outcome}
 use Rattle.calls.specs.Demand.{lent}
+use Rattle.calls.specs.Memory.{goesOn}
 use Rattle.event_rules.specs.declared.BusEvent.the-variants as bus
 use Rattle.trace_rules.specs.declared.Entry.{Entry}
 use Rattle.trace_rules.specs.declared.Entry.the-variants.{Allocate, Init, Reset, Address, Write, Read, Stall, IsStalled, Poll, Interrupt, Enable, Arrival, Collect, Bus, SetupEnd, Underrun, Overrun}
 use Rattle.report_rules.specs.Act.{State, state, operation, did, acted}
-use Rattle.report_rules.specs.Memory.{goesOn}
 
 -- of an entry of the trace s, with FIFO memory and a list that are not empty
 module _ (s : List ℕ) (k : Record) (a b : ℕ) (f l : List ℕ) where

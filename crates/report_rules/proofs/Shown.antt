@@ -1,9 +1,9 @@
 -- A line that was written shows an answer: one law for each of its cases.
 -- Assumes nothing.
-use Prim.Native.Nat.{ℕ, _+_, _-_, _*_, _^_, _≤_, _<_, min}
+use Prim.Native.Nat.{ℕ, _+_, _-_, _*_, _^_, _≤_, _<_}
 use native.Mathlib.Omega.{arith}
 use native.Mathlib.Nat.{add-sub-cancel-left}
-use mathlib.Core.Path.{_≡_, ap, _∙_}
+use mathlib.Core.Path.{_≡_, refl, ap, _∙_}
 use mathlib.Core.Bool.{Bool, cond}
 use mathlib.Core.List.{List, [], _∷_}
 use lib.ListN.{length, take, drop, length-take, length-drop}
@@ -77,12 +77,11 @@ module _ {b a : List ℕ} {r code : ℕ} where
   pub not-written : {y : write.WriteAnswer} {x : Refusal} → y ≡ wrote.Refused x → Shows b a r code (refusalNumber x) [] → Shows b a r code (writeNumber y) (writeValues y)
   not-written e s = rw e s
 
-  pub stored : (n m : ℕ) (buf : List ℕ) → m ≡ min n (length buf) → Wrote b a 0 r (line (code ∷ 0 ∷ n ∷ take m buf)) → r ≤ 100 + 4 * length (take m buf)
-      → 100 + 4 * length buf ≤ length b → Shows b a r code 0 (n ∷ take (min n (length buf)) buf)
-  stored n m buf e w h room =
-      shows (100 + 4 * length (take m buf)) (λ i. 0) (ap (λ (k : ℕ). n ∷ take k buf) e) w h (omega (arith, room, length-take m buf))
+  pub stored : (n : ℕ) (buf : List ℕ) → Wrote b a 0 r (line (code ∷ 0 ∷ n ∷ take n buf)) → r ≤ 100 + 4 * length (take n buf)
+      → 100 + 4 * length buf ≤ length b → Shows b a r code 0 (n ∷ take n buf)
+  stored n buf w h room = shows (100 + 4 * length (take n buf)) (λ i. 0) refl w h (omega (arith, room, length-take n buf))
 
-  pub read-done : {y : ReadAnswer} {n : ℕ} (buf : List ℕ) → y ≡ got.Done n → Shows b a r code 0 (n ∷ take (min n (length buf)) buf)
+  pub read-done : {y : ReadAnswer} {n : ℕ} (buf : List ℕ) → y ≡ got.Done n → Shows b a r code 0 (n ∷ take n buf)
       → Shows b a r code (readNumber y) (readValues y buf)
   read-done buf e s = rw e s
 
@@ -135,5 +134,12 @@ in-buffer fifo e h = rw e at h
 pub wrote-small : {y : write.WriteAnswer} {n : ℕ} → y ≡ wrote.Done n → writeFits y → n < 2 ^ 32
 wrote-small e h = rw e at h
 
-pub got-small : {y : ReadAnswer} {n : ℕ} → y ≡ got.Done n → readFits y → n < 2 ^ 32
-got-small e h = rw e at h
+module _ {y : ReadAnswer} {n : ℕ} (buf : List ℕ) (e : y ≡ got.Done n) where
+  got-both : readFits y buf → (n ≤ length buf) × (n < 2 ^ 32)
+  got-both h = rw e at h
+
+  pub got-whole : readFits y buf → n ≤ length buf
+  got-whole h = got-both h .0
+
+  pub got-small : readFits y buf → n < 2 ^ 32
+  got-small h = got-both h .1

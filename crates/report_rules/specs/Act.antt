@@ -9,6 +9,7 @@ use Rattle.endpoints.specs.Endpoints.{ask}
 use Rattle.record.specs.declared.Record.{Record}
 use Rattle.calls.specs.Calls as calls
 use Rattle.calls.specs.Calls.{Op, allocEp, busInit, enable, reset, setDeviceAddress, write, read, setStalled, isStalled, poll, onInterrupt, forceReset, arrival, collection, busReset, suspend, resume, setupEnd, underrun, overrun, outcome}
+use Rattle.calls.specs.Memory.{fifoAfter, listAfter}
 use Rattle.event_rules.specs.declared.BusEvent.{BusEvent}
 use Rattle.event_rules.specs.declared.BusEvent.the-variants as bus
 use Rattle.trace_rules.specs.declared.Entry.{Entry}
@@ -87,26 +88,7 @@ code forceReset = 0
 
 -- FIFO memory and the list after an operation: as it left them where it was lent them to write, and else as they were
 abbrev pub memory : State → Op → calls.Outcome → List ℕ × List ℕ
-memory x (allocEp q w) o = (x .fifo, x .list)
-memory x (busInit l) o = (x .fifo, o .list)
-memory x (enable l) o = (x .fifo, o .list)
-memory x (reset l) o = (x .fifo, o .list)
-memory x (setDeviceAddress a l) o = (x .fifo, o .list)
-memory x (write e b f l) o = (o .fifo, o .list)
-memory x (read e b f l) o = (x .fifo, o .list)
-memory x (setStalled e d on l) o = (x .fifo, o .list)
-memory x (isStalled e d l) o = (x .fifo, o .list)
-memory x (poll l) o = (x .fifo, o .list)
-memory x onInterrupt o = (x .fifo, x .list)
-memory x forceReset o = (x .fifo, x .list)
-memory x (arrival e b f) o = (o .fifo, x .list)
-memory x (collection e f) o = (x .fifo, x .list)
-memory x busReset o = (x .fifo, x .list)
-memory x suspend o = (x .fifo, x .list)
-memory x resume o = (x .fifo, x .list)
-memory x setupEnd o = (x .fifo, x .list)
-memory x (underrun e) o = (x .fifo, x .list)
-memory x (overrun e) o = (x .fifo, x .list)
+memory x p o = (fifoAfter (x .fifo) p o, listAfter (x .list) p o)
 
 -- of the operation's outcome o, with the memory m after it
 abbrev pub left : List ℕ × List ℕ → calls.Outcome → EntryOutcome

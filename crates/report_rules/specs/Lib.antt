@@ -2,4 +2,3 @@ pub mod Shown
 pub mod Act
 pub mod Report
 pub mod Runs
-pub mod Memory

@@ -29,6 +29,7 @@ abbrev pub writeFits : write.WriteAnswer → Type 0
 writeFits (wrote.Done n) = n < 2 ^ 32
 writeFits (wrote.Refused x) = Unit
 
-abbrev pub readFits : ReadAnswer → Type 0
-readFits (got.Done n) = n < 2 ^ 32
-readFits (got.Refused x) = Unit
+-- and a read's is within its buffer
+abbrev pub readFits : ReadAnswer → List ℕ → Type 0
+readFits (got.Done n) buf = (n ≤ length buf) × (n < 2 ^ 32)
+readFits (got.Refused x) buf = Unit

@@ -190,13 +190,13 @@ fn word(w: &mut [u16; 46], code: u8) -> u16 {
     }
 }
 
-// The packet that waits at a side, read into the first v bytes of a buffer.
+// The first bytes of the packet that waits at a side, at most v and at most eight.
 fn taken(w: &[u16; 46], e: u8, d: Direction, v: u16, fifo: &[u8; 1664]) -> [u8; 8] {
     let mut out = [255u8; 8];
     let from = board::area(Board::Display, e, d);
     let n = trace_text::least(regs::waiting_len(w, e, d) as usize, from.size);
     let k = trace_text::least(v as usize, 8);
-    fifo::take_bytes(fifo, from, n, &mut out[..k]);
+    fifo::take_bytes(fifo, from, trace_text::least(n, k), &mut out[..k]);
     out
 }
 

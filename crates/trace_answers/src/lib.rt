@@ -21,7 +21,7 @@ use transfer_rules::WriteCalled;
 ghost use mathlib.Core.Path.{_≡_};
 ghost use mathlib.Core.Bool.{cond};
 ghost use mathlib.Core.List.{[], _∷_};
-ghost use Prim.Native.Nat.{_+_, _*_, _≤_, _<_, _^_, min};
+ghost use Prim.Native.Nat.{_+_, _*_, _≤_, _<_, _^_};
 ghost use lib.ListN.{length, take, drop};
 ghost use Rattle.record.specs.Record.{refusalNumber, replyNumber};
 ghost use Rattle.call_rules.specs.Alloc.{allocNumber, allocValues};
@@ -150,7 +150,7 @@ fn show_write(line: &mut [u8], code: u8, a: WriteAnswer) -> usize
 }
 
 pub fn fetched(line: &mut [u8], code: u8, o: ReadCalled, buf: &[u8]) -> Acted
-    requires { ⌜ (100 + 4 * length (now buf) ≤ length (now line)) × readFits (o .answer) ⌝ }
+    requires { ⌜ (100 + 4 * length (now buf) ≤ length (now line)) × readFits (o .answer) (now buf) ⌝ }
     ensures { λ r. ⌜ Gives (now (line .entry)) (now (line .exit)) r code (o .«record») (o .stores) (readNumber (o .answer)) (readValues (o .answer) (now (buf .entry))) ⌝ }
 {
     let a = o.answer;
@@ -165,7 +165,7 @@ pub fn fetched(line: &mut [u8], code: u8, o: ReadCalled, buf: &[u8]) -> Acted
 
 // "for reads the count then stored bytes", which stand at the front of the read's buffer
 fn show_read(line: &mut [u8], code: u8, a: ReadAnswer, buf: &[u8]) -> usize
-    requires { ⌜ (100 + 4 * length (now buf) ≤ length (now line)) × readFits a ⌝ }
+    requires { ⌜ (100 + 4 * length (now buf) ≤ length (now line)) × readFits a (now buf) ⌝ }
     ensures { λ r. ⌜ Shows (now (line .entry)) (now (line .exit)) r code (readNumber a) (readValues a (now (buf .entry))) ⌝ }
 {
     match a {
@@ -175,11 +175,10 @@ fn show_read(line: &mut [u8], code: u8, a: ReadAnswer, buf: &[u8]) -> usize
 }
 
 fn show_stored(line: &mut [u8], code: u8, n: usize, buf: &[u8]) -> usize
-    requires { ⌜ (100 + 4 * length (now buf) ≤ length (now line)) × (n < 2 ^ 32) ⌝ }
-    ensures { λ r. ⌜ Shows (now (line .entry)) (now (line .exit)) r code 0 (n ∷ take (min n (length (now (buf .entry)))) (now (buf .entry))) ⌝ }
+    requires { ⌜ (100 + 4 * length (now buf) ≤ length (now line)) × (n ≤ length (now buf)) × (n < 2 ^ 32) ⌝ }
+    ensures { λ r. ⌜ Shows (now (line .entry)) (now (line .exit)) r code 0 (n ∷ take n (now (buf .entry))) ⌝ }
 {
-    let m = trace_text::least(n, buf.len());
-    trace_report::counted_line(line, code, 0, n as u32, &buf[..m])
+    trace_report::counted_line(line, code, 0, n as u32, &buf[..n])
 }
 
 pub fn polled(line: &mut [u8], code: u8, o: PollCalled) -> Acted

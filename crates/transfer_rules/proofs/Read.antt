@@ -1,5 +1,5 @@
 -- From the promises of a function's steps to its definition, a law for each way through it. Assumes nothing.
-use Prim.Native.Nat.{ℕ, min, _≤_}
+use Prim.Native.Nat.{ℕ, _≤_}
 use mathlib.Core.Path.{_≡_, sym, ap, _∙_}
 use mathlib.Core.Bool.{true}
 use mathlib.Core.List.{List, []}
@@ -10,10 +10,7 @@ use Rattle.board.specs.declared.Board.{Board}
 use Rattle.board.specs.declared.Span.{Span}
 use Rattle.board.specs.declared.Direction.the-variants.{Out}
 use Rattle.csr.specs.declared.RxcsrlSet.the-variants as rxcsrl
-use Rattle.csr.specs.declared.Side.{Side}
 use Rattle.register_file.specs.Registers.{File}
-use Rattle.register_file.proofs.Readings.{reselected}
-use Rattle.store_rules.proofs.Promises.{index-selects}
 use Rattle.store_rules.specs.Stores.{Log, log, writeIndex, modifyRxcsrl}
 use Rattle.control_state.specs.Control.{idle}
 use Rattle.control_state.specs.declared.ControlState.{ControlState}
@@ -41,12 +38,12 @@ unfolding recordSound areaOf
 packet-fits b w f ep p = waiting-fits (whole b w idle f) (record-is-sound (whole b w idle f) p) ep Out
 
 module _ (b : Board) (ep : ℕ) {s : Span} (is : s ≡ areaIn b ep Out) where
-  pub area-fits : {n m : ℕ} → n ≡ m → m ≤ areaIn b ep Out .size → n ≤ s .size
-  area-fits count p = rw (count, is) p
+  pub area-fits : {n : ℕ} → n ≤ areaIn b ep Out .size → n ≤ s .size
+  area-fits p = rw is p
 
-  pub copied-by : (n : ℕ) (x y : List ℕ) {z : List ℕ} → z ≡ pasted x 0 (take (min n (length x)) (drop (s .start) y)) → z ≡ copied b ep n x y
+  pub copied-by : (n : ℕ) (x y : List ℕ) {z : List ℕ} → z ≡ pasted x 0 (take n (drop (s .start) y)) → z ≡ copied b ep n x y
   unfolding copied
-  copied-by n x y p = p ∙ ap (λ (t : Span). pasted x 0 (take (min n (length x)) (drop (t .start) y))) is
+  copied-by n x y p = p ∙ ap (λ (t : Span). pasted x 0 (take n (drop (t .start) y))) is
 
 pub other-by : (c : ControlState) (f : Flags) (g : Log) {h : Log} → h ≡ modifyRxcsrl rxcsrl.NoRxPktRdy g → after c f h ≡ readOther c f g
 unfolding readOther
@@ -62,26 +59,18 @@ module _ (ep : ℕ) (x : List ℕ) (n size : ℕ) (c : ControlState) (f : Flags)
   unfolding got
   other-got z p = rw (ne-eqb ep 0 z) p
 
--- the selection changes no count, so that it is the same before and after
-pub same-count : (ep : ℕ) (g : Log) {h : Log} → h ≡ writeIndex ep g → rxCount ep (h .regs) ≡ rxCount ep (g .regs)
-same-count ep g p =
-    ap (λ (h : Log). rxCount ep (h .regs)) p ∙ ap (rxCount ep) (index-selects ep g) ∙ ap (λ (s : Side). s .len) (reselected (g .regs) ep ep Out)
-
-pub packet-there : (b : Board) (f : Flags) (ep : ℕ) (g : Log) {h : Log} → h ≡ writeIndex ep g → passes b (g .regs) f ≡ true → rxCount ep (h .regs) ≤ areaIn b ep Out .size
-packet-there b f ep g p q = rw (same-count ep g p) (packet-fits b (g .regs) f ep q)
-
 -- a packet that is read
 module _ (b : Board) (c : ControlState) (f : Flags) (size ep : ℕ) (x y : List ℕ) (g : Log) {h : Log} (is : h ≡ writeIndex ep g) where
   abbrev whose : ℕ → List ℕ → After → ReadLeft
   whose n z s = record { answer = Done n; buf = z; after = s }
 
-  pub read-by : {n : ℕ} {z : List ℕ} {s : After} → n ≡ rxCount ep (h .regs) → z ≡ copied b ep n x y → s ≡ got ep z n size c f h
+  pub read-by : {n : ℕ} {z : List ℕ} {s : After} → n ≡ rxCount ep (g .regs) → z ≡ copied b ep n x y → s ≡ got ep z n size c f h
       → record { answer = Done n; buf = z; after = s } ≡ readDone b c f size ep x y g
   unfolding readDone
   read-by {n = n} {z = z} count bytes p =
       ap (whose n z) (p ∙ ap (got ep z n size c f) is)
       ∙ ap (λ (u : List ℕ). whose n u (got ep u n size c f (writeIndex ep g))) bytes
-      ∙ ap (λ (m : ℕ). whose m (copied b ep m x y) (got ep (copied b ep m x y) m size c f (writeIndex ep g))) (count ∙ same-count ep g is)
+      ∙ ap (λ (m : ℕ). whose m (copied b ep m x y) (got ep (copied b ep m x y) m size c f (writeIndex ep g))) count
 
 -- the call, by what the tests came to
 module _ (b : Board) (w : File) (c : ControlState) (f : Flags) (size ep : ℕ) (x y l : List ℕ) {v : Verdict} (is : v ≡ testsIn b w c f ep (length x) (length y) (length l)) where

@@ -46,7 +46,7 @@ module _ (k : Record) (ep : ℕ) (b f l : List ℕ) where
     λ g. replied ∙ decides k ep (length b) (length f) (length l) g,
   )
 
-  -- "0: done, with its value": the packet's length, not what the buffer holds of it
+  -- "0: done, with its value": the packet's length
   pub value : (n : ℕ) → readCall k ep b f l .result .answer ≡ Done n → n ≡ waiting k ep
   unfolding waiting readDone
   value n e = go (tests k ep (length b) (length f) (length l)) (sym (ap (λ (o : ReadOutcome). o .result .answer) by-tests) ∙ e)

@@ -24,7 +24,7 @@ use Rattle.transfer_rules.specs.ReadTests.{unreadableIn, notSetupIn}
 use Rattle.transfer_rules.specs.ReadZero.{readNumber}
 use Rattle.transfer_rules.specs.Read.{readCall}
 use Rattle.transfer_rules.specs.ReadReplies.{Unreadable, Unset, readRows}
-use Rattle.transfer_rules.proofs.ReadCases.{nothingWaits, notReadable, notSetup, ReadCase, done, blocks, beyond, unreadable, unset, little, unsound}
+use Rattle.transfer_rules.proofs.ReadCases.{nothingWaits, notReadable, notSetup, overflows, ReadCase, done, blocks, beyond, unreadable, unset, cut, little, unsound}
 use Rattle.transfer_rules.proofs.ReadAnswers as answers
 use Rattle.transfer_rules.proofs.Lent.{says-short}
 
@@ -72,21 +72,26 @@ module _ (k : Record) (ep n f l : ℕ) where
       tells-both (eqb ep 0) (notSetupIn (k .«control_state» .state) (sideAt (k .regs .words) ep Out .len) n) (tells-is ep 0)
       (unset-says (k .«control_state» .state) (sideAt (k .regs .words) ep Out .len) n)
 
+  says-cut : overflows k ep n ≡ true ↔ n < sideAt (k .regs .words) ep Out .len
+  unfolding read.overflows
+  says-cut = tells-under n (sideAt (k .regs .words) ep Out .len)
+
   -- the first test that holds decides the number
   abbrev decided : ℕ
-  decided = cond (short k f l) 15 (cond (not (recordSound k)) 16 (cond (leb (endpointsOf k) ep) 8 (cond (nothingWaits k ep) 6 (cond (notReadable k ep) 12 (cond (notSetup k ep n) 13 0)))))
+  decided = cond (short k f l) 15 (cond (not (recordSound k)) 16 (cond (leb (endpointsOf k) ep) 8 (cond (nothingWaits k ep) 6 (cond (notReadable k ep) 12 (cond (notSetup k ep n) 13 (cond (overflows k ep n) 18 0))))))
 
   by-rows : rows.Given decided (readRows k ep n f l)
   by-rows =
       tested 15 _ _ _ (says-short k f l)
-      (tested 16 _ _ _ (tells-bad k) (tested 8 _ _ _ (tells-from (endpointsOf k) ep) (tested 6 _ _ _ says-ready (tested 12 _ _ _ says-unreadable (tested 13 _ _ _ says-unset none-left)))))
+      (tested 16 _ _ _ (tells-bad k) (tested 8 _ _ _ (tells-from (endpointsOf k) ep) (tested 6 _ _ _ says-ready (tested 12 _ _ _ says-unreadable (tested 13 _ _ _ says-unset (tested 18 _ _ _ says-cut none-left))))))
 
   by-cases : {m : ℕ} → ReadCase k ep n f l m → m ≡ decided
-  by-cases (done a s t u) = rw (a .lent, a .passes, a .there, s, t, u)
+  by-cases (done a s t u v) = rw (a .lent, a .passes, a .there, s, t, u, v)
   by-cases (blocks a s) = rw (a .lent, a .passes, a .there, s)
   by-cases (beyond p q r) = rw (p, q, r)
   by-cases (unreadable a s t) = rw (a .lent, a .passes, a .there, s, t)
   by-cases (unset a s t u) = rw (a .lent, a .passes, a .there, s, t, u)
+  by-cases (cut a s t u v) = rw (a .lent, a .passes, a .there, s, t, u, v)
   by-cases (little p) = rw p
   by-cases (unsound p q) = rw (p, q)
 

@@ -1,10 +1,10 @@
 -- An answered write and an answered read leave what specs/Transfers.antt says. Assumes nothing.
-use Prim.Native.Nat.{ℕ, _+_, _≤_, _<_, min}
+use Prim.Native.Nat.{ℕ, _+_, _≤_, _<_}
 use mathlib.Core.Path.{_≡_, refl, sym, ap, subst, _∙_}
 use mathlib.Core.Bool.{true, false}
 use mathlib.Core.List.{List}
 use native.Mathlib.Omega.{arith}
-use native.Mathlib.Nat.{zero-add, min-le-left, min-le-right, le-min}
+use native.Mathlib.Nat.{zero-add}
 use native.Mathlib.Decide.{ℕ-discrete}
 use borrow.Author.Tests.{eq-eqb, ne-eqb, ltb-false}
 use lib.ListN.{length, getD, take, drop, length-drop}
@@ -134,7 +134,7 @@ module _ (k : Record) (e : ℕ) (bytes x l : List ℕ) where
     room : areaOf k e In .start + areaOf k e In .size ≤ length x
     room = omega (arith, area-within k e In, lent-enough k (length x) (length l) (passed .admitted .lent) .0)
 
-    pasted-there : whose .fifo ≡ pasted x (areaOf k e In .start) bytes
+    pub pasted-there : whose .fifo ≡ pasted x (areaOf k e In .start) bytes
     unfolding write.writeDone areaOf
     pasted-there = ap (λ (o : WriteOutcome). o .fifo) call-done
 
@@ -213,17 +213,20 @@ module _ (k : Record) (e : ℕ) (buf x l : List ℕ) where
 
   pub record Readable : Type 0 where
     pub admitted : Admitted k e (length x) (length l)
+    pub roomy : read-cases.overflows k e (length buf) ≡ false
     pub clear : read-tests.tests k e (length buf) (length x) (length l) ≡ Clear
 
   readable-by : {m : ℕ} → read-cases.ReadCase k e (length buf) (length x) (length l) m → m ≡ 0 → Readable
-  readable-by (read-cases.done a s t u) z = record {
+  readable-by (read-cases.done a s t u v) z = record {
     admitted = a;
-    clear = read-verdicts.told k e (length buf) (length x) (length l) ∙ rw (a .lent, a .passes, a .there, s, t, u);
+    roomy = v;
+    clear = read-verdicts.told k e (length buf) (length x) (length l) ∙ rw (a .lent, a .passes, a .there, s, t, u, v);
   }
   readable-by (read-cases.blocks a s) z = absurd (omega arith)
   readable-by (read-cases.beyond p q r) z = absurd (omega arith)
   readable-by (read-cases.unreadable a s t) z = absurd (omega arith)
   readable-by (read-cases.unset a s t u) z = absurd (omega arith)
+  readable-by (read-cases.cut a s t u v) z = absurd (omega arith)
   readable-by (read-cases.little p) z = absurd (omega arith)
   readable-by (read-cases.unsound p q) z = absurd (omega arith)
 
@@ -240,41 +243,45 @@ module _ (k : Record) (e : ℕ) (buf x l : List ℕ) where
     len-room : areaOf k e Out .start + len ≤ length x
     len-room = omega (arith, len-fits, area-within k e Out, lent-enough k (length x) (length l) (readable .admitted .lent) .0)
 
-    -- what is copied: the shorter of packet and buffer
-    abbrev part : List ℕ
-    part = take (min len (length buf)) (drop (areaOf k e Out .start) x)
+    buf-room : len ≤ length buf
+    unfolding read-tests.overflows
+    buf-room = ltb-false _ _ (readable .roomy)
 
-    part-there : min len (length buf) ≤ length (drop (areaOf k e Out .start) x)
-    part-there = simp length-drop (omega (arith, len-room, min-le-left len (length buf)))
+    -- what is copied: the packet
+    abbrev pub part : List ℕ
+    part = take len (drop (areaOf k e Out .start) x)
 
-    part-length : length part ≡ min len (length buf)
-    part-length = length-take-le (min len (length buf)) (drop (areaOf k e Out .start) x) part-there
+    pub part-length : length part ≡ len
+    part-length = length-take-le len (drop (areaOf k e Out .start) x) (simp length-drop (omega (arith, len-room)))
 
-    copied-there : reading .buf ≡ pasted buf 0 part
+    part-within : 0 + length part ≤ length buf
+    part-within = omega (arith, part-length, buf-room)
+
+    said-len : reading .result .answer ≡ got-answer.Done len
+    unfolding read.readDone
+    said-len = ap (λ (o : ReadOutcome). o .result .answer) read-done
+
+    pub copied-there : reading .buf ≡ pasted buf 0 part
     unfolding read.readDone copied areaOf
     copied-there = ap (λ (o : ReadOutcome). o .buf) read-done
 
-    copied-inside : (i : ℕ) → i < len → i < length buf → getD (reading .buf) i 0 ≡ getD x (areaOf k e Out .start + i) 0
-    copied-inside i p q =
-        let h : i < min len (length buf) = le-min p q in
-        let j : i < length part = rw part-length h in
+    copied-inside : (i : ℕ) → i < len → getD (reading .buf) i 0 ≡ getD x (areaOf k e Out .start + i) 0
+    copied-inside i h =
         ap (λ (y : List ℕ). getD y i 0) copied-there ∙ ap (λ (m : ℕ). getD (pasted buf 0 part) m 0) (sym (zero-add i))
-        ∙ byte-inside buf 0 part (omega arith) i 0 j ∙ getD-take (min len (length buf)) (drop (areaOf k e Out .start) x) i 0 h
+        ∙ byte-inside buf 0 part (omega arith) i 0 (rw part-length h) ∙ getD-take len (drop (areaOf k e Out .start) x) i 0 h
         ∙ getD-drop (areaOf k e Out .start) x i 0
 
     copied-outside : (i : ℕ) → len ≤ i → getD (reading .buf) i 0 ≡ getD buf i 0
     copied-outside i h =
-        let past : 0 + length part ≤ i = omega (arith, part-length, min-le-left len (length buf)) in
+        let past : 0 + length part ≤ i = omega (arith, part-length, h) in
         ap (λ (y : List ℕ). getD y i 0) copied-there ∙ byte-after buf 0 part (omega arith) i 0 past
 
     copied-whole : length (reading .buf) ≡ length buf
-    copied-whole =
-        let within : 0 + length part ≤ length buf = omega (arith, part-length, min-le-right len (length buf)) in
-        ap (λ (y : List ℕ). length y) copied-there ∙ length-pasted buf 0 part within
+    copied-whole = ap (λ (y : List ℕ). length y) copied-there ∙ length-pasted buf 0 part part-within
 
     -- at any endpoint
     pub copies : Copies k e buf x reading
-    copies = record { fits = len-fits; inside = copied-inside; outside = copied-outside; whole = copied-whole }
+    copies = record { said = said-len; fits = len-fits; room = buf-room; inside = copied-inside; outside = copied-outside; whole = copied-whole }
 
     -- at 1 to 5
     module _ (up : e ≡ 0 → ⊥) (six : Whole (k .regs .words)) where

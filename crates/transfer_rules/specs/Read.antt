@@ -1,6 +1,6 @@
 -- The call `read`: its tests decide, its steps stand in the source's order, and this is the whole of what it leaves.
 -- Assumes nothing.
-use Prim.Native.Nat.{ℕ, min}
+use Prim.Native.Nat.{ℕ}
 use mathlib.Core.Bool.{cond}
 use mathlib.Core.List.{List}
 use lib.Dec.{eqb}
@@ -47,9 +47,10 @@ outcome k t = record { result = record { answer = t .answer; «record» = leavin
 
 -- the steps: x is the caller's buffer, y the FIFO memory, which is lent to be read, and stays -----------------------------------
 
--- `buf.into_iter().take(read_count)`: "Read copies the shorter of packet and buffer"; every other byte of the buffer stays
+-- `buf.into_iter().take(read_count)`, where the buffer has room for the whole packet (reply 18 came before): its n bytes; every other byte of the
+-- buffer stays
 unfoldable pub copied : Board → ℕ → ℕ → List ℕ → List ℕ → List ℕ
-copied b ep n x y = pasted x 0 (take (min n (length x)) (drop (areaIn b ep Out .start) y))
+copied b ep n x y = pasted x 0 (take n (drop (areaIn b ep Out .start) y))
 
 -- the others: `rxcsrl().modify(|w| w.set_rx_pkt_rdy(false))`, which drops it too
 unfoldable pub readOther : ControlState → Flags → Log → After

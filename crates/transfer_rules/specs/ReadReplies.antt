@@ -1,4 +1,4 @@
--- Document 01's table of replies, the rows of `read`: "Given exactly when".
+-- Document 01's table of replies, the rows of `read`: "Given exactly when"; and document 02's reply 18.
 -- Assumes nothing.
 use Prim.Native.Nat.{ℕ, _≤_, _<_}
 use mathlib.Core.Path.{_≡_}
@@ -22,7 +22,7 @@ abbrev pub Unset : ControlStateEnum → ℕ → ℕ → Type 0
 Unset s len room = (s ≡ Setup) × ((len ≡ 8 → ⊥) ⊎ (room < 8))
 
 -- the caller's buffer has room for so many bytes; so many bytes of FIFO memory and so many numbers of a list are lent. "15, 16, 8, then ..
--- read 6, 12, 13"
+-- read 6, 12, 13"; document 02, T-02: "reply 18, after 13 in a read", a buffer under the packet's length
 abbrev pub readRows : Record → ℕ → ℕ → ℕ → ℕ → List Row
 readRows k ep room fifo list =
     row 15 ((fifo < needOf k) ⊎ (list < 384))
@@ -31,4 +31,5 @@ readRows k ep room fifo list =
     ∷ row 6 (sideAt (k .regs .words) ep Out .ready ≡ false)
     ∷ row 12 ((ep ≡ 0) × Unreadable (k .«control_state» .state))
     ∷ row 13 ((ep ≡ 0) × Unset (k .«control_state» .state) (sideAt (k .regs .words) ep Out .len) room)
+    ∷ row 18 (room < sideAt (k .regs .words) ep Out .len)
     ∷ []

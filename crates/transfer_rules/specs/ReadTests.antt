@@ -1,4 +1,4 @@
--- The tests of the call `read`, in document 01's order.
+-- The tests of the call `read`, in document 01's order, and behind them document 02's.
 -- Assumes nothing.
 use Prim.Native.Nat.{ℕ}
 use mathlib.Core.Bool.{Bool, true, false, not, _&&_, _||_}
@@ -13,7 +13,7 @@ use Rattle.control_state.specs.declared.ControlStateEnum.{ControlStateEnum}
 use Rattle.control_state.specs.declared.ControlStateEnum.the-variants.{Idle, Setup, DataIn, DataOut, Accepted, NodataPhase}
 use Rattle.record.specs.declared.Flags.{Flags}
 use Rattle.record.specs.declared.Record.{Record}
-use Rattle.record.specs.declared.Refusal.the-variants.{NotReadable, NotSetup}
+use Rattle.record.specs.declared.Refusal.the-variants.{NotReadable, NotSetup, BufferOverflow}
 
 -- the tests --------------------------------------------------------------------------------------------------------------------
 
@@ -45,16 +45,22 @@ notSetupIn NodataPhase n room = false
 unfoldable pub notSetup : File → ControlState → ℕ → ℕ → Bool
 notSetup w c ep room = eqb ep 0 && notSetupIn (c .state) (rxCount ep w) room
 
--- "then .. read 6, 12, 13"
-abbrev pub ownTests : Bool → Bool → Bool → Verdict
-ownTests true unreadable unset = verdict.Blocked
-ownTests false true unset = verdict.Refused NotReadable
-ownTests false false true = verdict.Refused NotSetup
-ownTests false false false = verdict.Clear
+-- reply 18 (document 02, T-02): the caller's buffer is shorter than the waiting packet. "A buffer of exactly the packet's length is enough, and
+-- an empty packet fits any buffer."
+unfoldable pub overflows : File → ℕ → ℕ → Bool
+overflows w ep room = ltb room (rxCount ep w)
+
+-- "then .. read 6, 12, 13"; document 02: "reply 18, after 13 in a read"
+abbrev pub ownTests : Bool → Bool → Bool → Bool → Verdict
+ownTests true unreadable unset over = verdict.Blocked
+ownTests false true unset over = verdict.Refused NotReadable
+ownTests false false true over = verdict.Refused NotSetup
+ownTests false false false true = verdict.Refused BufferOverflow
+ownTests false false false false = verdict.Clear
 
 -- reply 6: "read: RxPktRdy clear", as it reads once the endpoint is selected
 unfoldable pub ownTestsAt : File → ControlState → ℕ → ℕ → Verdict
-ownTestsAt w c ep room = ownTests (not (rxPktRdy ep w)) (notReadable c ep) (notSetup w c ep room)
+ownTestsAt w c ep room = ownTests (not (rxPktRdy ep w)) (notReadable c ep) (notSetup w c ep room) (overflows w ep room)
 
 -- "Order: 15, 16, 8, then .."
 unfoldable pub testsIn : Board → File → ControlState → Flags → ℕ → ℕ → ℕ → ℕ → Verdict

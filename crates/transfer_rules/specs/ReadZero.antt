@@ -1,10 +1,10 @@
 -- The call `read` at endpoint 0, by the control state, its steps in the source's order; and what a read gives back.
 -- Assumes nothing.
-use Prim.Native.Nat.{ℕ, _+_, _*_, min}
+use Prim.Native.Nat.{ℕ, _+_, _*_}
 use mathlib.Core.Bool.{Bool, cond}
 use mathlib.Core.List.{List, [], _∷_}
 use lib.Dec.{leb, ltb, eqb}
-use lib.ListN.{length, getD, take}
+use lib.ListN.{getD, take}
 use Rattle.board.specs.declared.Direction.the-variants.{Out}
 use Rattle.csr.specs.declared.Csr0lSet.the-variants as csr0l
 use Rattle.store_rules.specs.Stores.{Log, modifyCsr0l}
@@ -26,7 +26,7 @@ readNumber (Done n) = 0
 readNumber (Refused x) = refusalNumber x
 
 abbrev pub readValues : ReadAnswer → List ℕ → List ℕ
-readValues (Done n) b = n ∷ take (min n (length b)) b
+readValues (Done n) b = n ∷ take n b
 readValues (Refused x) b = []
 
 -- the steps --------------------------------------------------------------------------------------------------------------------

@@ -16,6 +16,7 @@ use Rattle.record.specs.declared.Record.{Record}
 use Rattle.record.specs.Record.{areaOf}
 use Rattle.transfer_rules.specs.Write.{WriteOutcome}
 use Rattle.transfer_rules.specs.Read.{ReadOutcome}
+use Rattle.transfer_rules.specs.declared.ReadAnswer.the-variants as read
 use Rattle.csr.specs.Kept.{SameBits}
 
 -- all of the record but its registers
@@ -70,10 +71,12 @@ pub record Takes (k : Record) (e : ℕ) (l : List ℕ) (o : ReadOutcome) : Type 
   pub list : o .list ≡ listed (listed l 0 INDEX e e) 1 RXCSRL e (takeValue (sideAt (k .regs .words) e Out))
   pub count : o .result .stores ≡ 2
 
--- "Read copies the shorter of packet and buffer": an answered read at any endpoint e, from e's own receive area; what the packet is too
--- short for stays
+-- An answered read at any endpoint e (document 02, T-02: "gets all of it"): the buffer has room for the packet, which stands whole at its front, from
+-- e's own receive area; the answer is its length; and the rest of the buffer stays
 pub record Copies (k : Record) (e : ℕ) (buf fifo : List ℕ) (o : ReadOutcome) : Type 0 where
+  pub said : o .result .answer ≡ read.Done (sideAt (k .regs .words) e Out .len)
   pub fits : sideAt (k .regs .words) e Out .len ≤ areaOf k e Out .size
-  pub inside : (i : ℕ) → i < sideAt (k .regs .words) e Out .len → i < length buf → getD (o .buf) i 0 ≡ getD fifo (areaOf k e Out .start + i) 0
+  pub room : sideAt (k .regs .words) e Out .len ≤ length buf
+  pub inside : (i : ℕ) → i < sideAt (k .regs .words) e Out .len → getD (o .buf) i 0 ≡ getD fifo (areaOf k e Out .start + i) 0
   pub outside : (i : ℕ) → sideAt (k .regs .words) e Out .len ≤ i → getD (o .buf) i 0 ≡ getD buf i 0
   pub whole : length (o .buf) ≡ length buf

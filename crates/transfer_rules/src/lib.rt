@@ -38,7 +38,7 @@ pub struct WriteRan {
 }
 
 pub enum ReadAnswer {
-    // the packet's length, however much of it the buffer holds
+    // the packet's length: all of it stands at the front of the buffer
     Done(usize),
     Refused(Refusal),
 }

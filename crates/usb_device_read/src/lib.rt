@@ -1,6 +1,7 @@
 // The call `read` of the source's usb_device_impl: the packet that waits in an endpoint's receive area, into the caller's buffer.
-// What is refused is tested before anything changes, in document 01's order (the source selects the endpoint first, and panics where it
-// can't go on); after that the steps are the source's, in its order: endpoint 0's by the control state, then those of the others.
+// What is refused is tested before anything changes, in document 01's order and then document 02's (the source selects the endpoint first,
+// panics where it can't go on, and cuts a packet that the buffer has no room for); after that the steps are the source's, in its order:
+// endpoint 0's by the control state, then those of the others.
 use board::Board;
 use board::Direction;
 use control_state::ControlState;
@@ -20,7 +21,7 @@ use transfer_rules::Verdict;
 ghost use mathlib.Core.Path.{_≡_};
 ghost use mathlib.Core.Bool.{true};
 ghost use Prim.Native.Nat.{_<_, _+_, _*_, _≤_};
-ghost use Rattle.transfer_rules.specs.ReadTests.{unreadableIn, notReadable, notSetupIn, notSetup, ownTestsAt, testsIn};
+ghost use Rattle.transfer_rules.specs.ReadTests.{unreadableIn, notReadable, notSetupIn, notSetup, overflows, ownTestsAt, testsIn};
 ghost use lib.ListN.{length, getD};
 ghost use Rattle.store_rules.specs.Stores.{log};
 ghost use Rattle.transfer_rules.specs.Peek.{afterOf, rxCount};
@@ -97,7 +98,7 @@ fn read_by(
     }
 }
 
-// Every test, before anything changes: 15, 16, 8, then 6, 12, 13.
+// Every test, before anything changes: 15, 16, 8, then 6, 12, 13, 18.
 fn refusal(
     b: Board,
     w: &[u16; 46],
@@ -123,7 +124,7 @@ fn refusal(
     }
 }
 
-// Read's own tests, in their order: 6, 12, 13.
+// Read's own tests, in their order: 6, 12, 13, 18.
 fn own_tests_at(w: &[u16; 46], c: ControlState, ep: u8, room: usize) -> Verdict
     ensures { λ v. ⌜ v ≡ ownTestsAt (now (w .entry)) c ep room ⌝ }
 {
@@ -135,6 +136,9 @@ fn own_tests_at(w: &[u16; 46], c: ControlState, ep: u8, room: usize) -> Verdict
     }
     if not_setup(w, c, ep, room) {
         return Verdict::Refused(Refusal::NotSetup);
+    }
+    if overflows(w, ep, room) {
+        return Verdict::Refused(Refusal::BufferOverflow);
     }
     Verdict::Clear
 }
@@ -181,6 +185,13 @@ fn not_setup_in(s: ControlStateEnum, n: u16, room: usize) -> bool
     }
 }
 
+// Has the buffer no room for all of the packet? The source would cut it, and say its whole length.
+fn overflows(w: &[u16; 46], ep: u8, room: usize) -> bool
+    ensures { λ b. ⌜ b ≡ overflows (now (w .entry)) ep room ⌝ }
+{
+    room < regs::waiting_len(w, ep, Direction::Out) as usize
+}
+
 fn take(
     b: Board,
     w: &mut [u16; 46],
@@ -192,11 +203,13 @@ fn take(
     buf: &mut [u8],
     fifo: &[u8],
 ) -> ReadRan
-    requires { ⌜ (passes b (now w) f ≡ true) × (needIn b ≤ length (now fifo)) × (384 ≤ length (now list)) ⌝ }
+    requires { ⌜ (passes b (now w) f ≡ true) × (needIn b ≤ length (now fifo)) × (384 ≤ length (now list)) × (rxCount ep (now w) ≤ length (now buf)) ⌝ }
     ensures { λ o. ⌜ readLeft o (now (w .exit)) (now (list .exit)) (now (buf .exit)) ≡ readDone b c f size ep (now (buf .entry)) (now (fifo .entry)) (log (now (w .entry)) (now (list .entry)) 0) ⌝ }
 {
+    // as it was tested: the selection changes no count
+    let count = regs::waiting_len(w, ep, Direction::Out) as usize;
     let n = stores::write_index(w, list, 0, ep);
-    let count = fetch(b, w, ep, buf, fifo);
+    fetch(b, ep, count, buf, fifo);
     let s = serve(w, list, n, ep, c, f, count, size, buf);
     ReadRan {
         answer: ReadAnswer::Done(count),
@@ -204,15 +217,13 @@ fn take(
     }
 }
 
-// The bytes of the packet that waits, as many as the buffer holds; all its length is answered.
-fn fetch(b: Board, w: &[u16; 46], ep: u8, buf: &mut [u8], fifo: &[u8]) -> usize
-    requires { ⌜ (rxCount ep (now w) ≤ areaIn b ep Out .size) × (needIn b ≤ length (now fifo)) ⌝ }
-    ensures { λ n. ⌜ (n ≡ rxCount ep (now (w .entry))) × (now (buf .exit) ≡ copied b ep n (now (buf .entry)) (now (fifo .entry))) ⌝ }
+// The packet that waits, all n bytes of it.
+fn fetch(b: Board, ep: u8, n: usize, buf: &mut [u8], fifo: &[u8])
+    requires { ⌜ (n ≤ areaIn b ep Out .size) × (needIn b ≤ length (now fifo)) × (n ≤ length (now buf)) ⌝ }
+    ensures { λ _. ⌜ now (buf .exit) ≡ copied b ep n (now (buf .entry)) (now (fifo .entry)) ⌝ }
 {
-    let n = regs::waiting_len(w, ep, Direction::Out) as usize;
     let area = record_ops::area(b, ep, Direction::Out);
     fifo::take_bytes(fifo, area, n, buf);
-    n
 }
 
 // The packet is in the buffer, and is dropped.

@@ -155,7 +155,7 @@ fn waiting(m: &mut Model, endpoint: usize) -> Vec<u8> {
         .collect()
 }
 
-/// The shorter of a packet and the buffer that is lent, at most eight bytes.
+/// The first bytes of a packet, as many as are asked for, at most eight.
 fn first(packet: &[u8], lent: u16) -> [u8; 8] {
     let mut buffer = [255; 8];
     let n = packet.len().min(lent.into()).min(8);

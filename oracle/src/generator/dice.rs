@@ -42,6 +42,18 @@ impl Dice {
         (0..length).map(|_| self.next() as u8).collect()
     }
 
+    /// The length of a buffer for a packet of this length: too short, just enough, longer.
+    pub fn room(&mut self, length: u32) -> u32 {
+        match self.below(8) {
+            0 => 0,
+            1 => length.saturating_sub(1),
+            2 | 3 => length,
+            4 => (length + 1).min(512),
+            5 => 64,
+            _ => 512,
+        }
+    }
+
     /// The eight bytes of a Setup packet that asks for this length in this direction (1 in, 0 out).
     pub fn setup(&mut self, direction: u32, length: u32) -> Vec<u8> {
         let mut packet = self.bytes(8);

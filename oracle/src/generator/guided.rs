@@ -80,7 +80,7 @@ fn control_step(dice: &mut Dice, machine: &Machine, trace: &mut Vec<u8>) {
         State::DataIn if dice.one_in(8) => put_entry(trace, 15, &[]),
         State::DataIn if sending => put_entry(trace, 13, &[0]),
         State::DataIn => put_data_in(dice, private.tx_len, trace),
-        State::DataOut if received => put_entry(trace, 6, &[0, dice.pick(&[64, 64, 63, 0, 512])]),
+        State::DataOut if received => put_read(dice, machine, 0, trace),
         State::DataOut => put_data_out(dice, trace),
         State::Accepted if !received && dice.one_in(3) => put_setup(dice, trace),
         State::NodataPhase if !received && dice.one_in(3) => put_setup(dice, trace),
@@ -131,11 +131,17 @@ fn data_step(dice: &mut Dice, machine: &Machine, trace: &mut Vec<u8>) {
         0 => put_entry(trace, 16, &[number]),
         1 => put_entry(trace, 17, &[number]),
         2 => put_entry(trace, 7, &[number, dice.under(2), dice.under(2)]),
-        3..=7 if received => put_entry(trace, 6, &[number, dice.pick(&[512, 64, 10])]),
+        3..=7 if received => put_read(dice, machine, endpoint, trace),
         3..=7 => put_full(dice, 12, endpoint, Direction::Out, trace),
         _ if sending => put_entry(trace, 13, &[number]),
         _ => put_full(dice, 5, endpoint, Direction::In, trace),
     }
+}
+
+/// A read of the packet that waits, with room for it or without.
+fn put_read(dice: &mut Dice, machine: &Machine, endpoint: usize, trace: &mut Vec<u8>) {
+    let length = machine.model(|m| m.rx[endpoint].length);
+    put_entry(trace, 6, &[endpoint as u32, dice.room(length.into())])
 }
 
 /// A packet that fills its area, or a shorter one.

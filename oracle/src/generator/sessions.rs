@@ -1,5 +1,5 @@
 //! What a host and a device do together, told in the order of a real bus, with the small disorders
-//! of one: joined interrupts, polls too many and too few.
+//! of one: joined interrupts, polls too many and too few, buffers too short at first.
 
 use super::dice::Dice;
 use crate::trace::{put_entry, put_packet};
@@ -51,6 +51,21 @@ impl Session<'_> {
     fn arrival(&mut self, endpoint: u32, length: u32) {
         let bytes = self.dice.bytes(length as usize);
         self.packet(12, endpoint, &bytes)
+    }
+
+    /// A packet of this length is read, now and then into too short a buffer first.
+    fn read(&mut self, endpoint: u32, length: u32, size: u32) {
+        if length > 0 && self.dice.one_in(6) {
+            let short = self.dice.under(length);
+            let room = self.dice.pick(&[length - 1, short]);
+            self.call(6, &[endpoint, room]);
+            if self.dice.one_in(3) {
+                self.arrival(endpoint, length); // out of turn: the first still waits
+            }
+            self.serve();
+        }
+        let room = self.dice.pick(&[size, size, length]);
+        self.call(6, &[endpoint, room]);
     }
 
     /// The interrupt is taken and the driver polled, now and then late or twice.
@@ -200,7 +215,7 @@ impl Session<'_> {
             let now = left.min(PACKET);
             self.arrival(0, now);
             self.serve();
-            self.call(6, &[0, PACKET]);
+            self.read(0, now, PACKET);
             left -= now;
             if now < PACKET {
                 break;
@@ -313,7 +328,7 @@ impl Session<'_> {
             let length = self.length(size);
             self.arrival(number, length);
             self.serve();
-            self.call(6, &[number, size]);
+            self.read(number, length, size);
         }
         self.call(9, &[]);
     }

@@ -9,8 +9,8 @@ use Rattle.fifo.proofs.take_bytes.Statement.{statement}
 use Rattle.fifo.proofs.take_bytes.Tie as tie
 
 returns : tie.Need-returns
-returns c = let a = c .before .before .before .before .before .before .before .before .args in c .before .before .copy-in .ensures ∙ ap (λ (k : ℕ). pasted (now (a .buf)) 0 (take k (drop (a .area .start) (now (a .fifo))))) (add-sub-cancel-left (a .area .start) _ ∙ c .before .before .before .before .before .lesser .ensures)
+returns c = let a = c .before .before .before .before .before .before .before .args in c .before .before .copy-in .ensures ∙ ap (λ (k : ℕ). pasted (now (a .buf)) 0 (take k (drop (a .area .start) (now (a .fifo))))) (add-sub-cancel-left (a .area .start) _)
 
 pub take-bytes-spec : {M : Type 1} → statement M
-take-bytes-spec = tie.close (tie.spec (λ c κs. search needs) (λ c. search needs) (λ c. search needs) (λ c. search needs) (λ c. search needs)
+take-bytes-spec = tie.close (tie.spec (λ c. search needs) (λ c. search needs) (λ c. search needs) (λ c. search needs)
     (λ c κs. search needs) (λ c. search needs) returns)

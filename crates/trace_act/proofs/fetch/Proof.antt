@@ -6,7 +6,7 @@ use Rattle.trace_act.proofs.fetch.Statement.{statement}
 use Rattle.trace_act.proofs.fetch.Tie as tie
 
 fetched-requires : tie.Need-fetched-requires
-fetched-requires c κs = (search needs, got-fits _ _ _ _ _ (c .before .before .before .before .before .before .read .ensures) (c .before .before .before .before .before .before .before .before .before .before .before .before .before .pre .1))
+fetched-requires c κs = (search needs, got-fits _ _ _ _ _ (c .before .before .before .before .before .before .read .ensures) (c .before .before .before .before .before .before .before .before .before .before .before .before .before .pre .0))
 
 returns : tie.Need-returns
 returns c = by-fetched _ (c .before .before .before .before .before .before .before .before .before .read .ensures) (c .before .before .fetched .ensures)

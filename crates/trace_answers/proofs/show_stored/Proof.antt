@@ -11,17 +11,13 @@ use Rattle.trace_answers.proofs.show_stored.Statement.{statement}
 use Rattle.trace_answers.proofs.show_stored.Tie as tie
 
 slice-aggregate-counted-line : tie.Need-slice-aggregate-counted-line
-slice-aggregate-counted-line c = sym (length-take-le _ _ (c .before .before .least .ensures .2))
+slice-aggregate-counted-line c = sym (length-take-le _ _ (search needs))
 
 counted-line-requires : tie.Need-counted-line-requires
-counted-line-requires c κs = omega (arith, length-take (c .before .before .least .result) (now (c .before .before .before .before .before .args .buf)))
+counted-line-requires c κs = let a = c .before .before .before .before .args in omega (arith, length-take (a .n) (now (a .buf)))
 
 returns : tie.Need-returns
-returns c =
-    let d = c .before .before in
-    let l = d .before .before .before .least .ensures in
-    stored _ _ _ (l .0) (d .counted-line .ensures .0) (d .counted-line .ensures .1) (search needs)
+returns c = let d = c .before .before in stored _ _ (d .counted-line .ensures .0) (d .counted-line .ensures .1) (search needs)
 
 pub show-stored-spec : {M : Type 1} → statement M
-show-stored-spec = tie.close (tie.spec (λ c κs. search needs) (λ c. search needs) slice-aggregate-counted-line counted-line-requires
-    (λ c. search needs) returns)
+show-stored-spec = tie.close (tie.spec (λ c. search needs) slice-aggregate-counted-line counted-line-requires (λ c. search needs) returns)
