@@ -13,3 +13,4 @@ pub mod InterruptReplies
 pub mod Flags
 pub mod Interrupt
 pub mod Taken
+pub mod Late

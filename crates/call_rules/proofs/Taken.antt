@@ -70,7 +70,7 @@ pub record Walked (s : Snapshot) (f g : Flags) (l : List ℕ) : Type 0 where
   pub resume : g .resume ≡ f .resume
   pub ep0 : g .ep0 ≡ f .ep0
 
-walked : (s : Snapshot) (f : Flags) (l : List ℕ) → Walked s f (foldl (endpointTaken s) f l) l
+pub walked : (s : Snapshot) (f : Flags) (l : List ℕ) → Walked s f (foldl (endpointTaken s) f l) l
 unfolding endpointTaken
 walked s f [] = record { tx = refl; rx = refl; reset = refl; suspend = refl; resume = refl; ep0 = refl }
 walked s f (e ∷ l) = let w = walked s (endpointTaken s f e) l in record { tx = w .tx; rx = w .rx; reset = w .reset; suspend = w .suspend; resume = w .resume; ep0 = w .ep0 }

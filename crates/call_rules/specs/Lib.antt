@@ -10,3 +10,4 @@ pub mod Stalling
 pub mod Interrupt
 pub mod InterruptReplies
 pub mod Taken
+pub mod Late

@@ -14,6 +14,7 @@ use Rattle.record.proofs.Areas.{size-at}
 use Rattle.record.proofs.Passing.{fresh-passes}
 use Rattle.store_rules.specs.Stores.{Log}
 use Rattle.event_rules.specs.Promise.{Event}
+use Rattle.event_rules.proofs.Promises.{rest}
 use Rattle.call_rules.specs.Interrupt.{interrupted, interruptBy, interruptCall}
 use Rattle.calls.specs.Calls.{Op, allocEp, busInit, enable, reset, setDeviceAddress, write, read, setStalled, isStalled, poll, onInterrupt, forceReset, arrival, collection, busReset, suspend, resume, setupEnd, underrun, overrun, outcome, step}
 use Rattle.calls.specs.Demand.{lent}
@@ -25,7 +26,7 @@ use Rattle.calls.proofs.Writing as writing
 use Rattle.calls.proofs.Reading as reading
 use Rattle.calls.proofs.Polling as polling
 use Rattle.calls.proofs.Happening as happening
-use Rattle.calls.proofs.Happening.{Happens, refused as not-happened, happened, happens-holds, cleared-holds, interrupt-low}
+use Rattle.calls.proofs.Happening.{Happens, refused as not-happened, happened, happens-holds, cleared-rest, cleared-holds, interrupt-low}
 
 -- reply 16 over the board's table, and back
 module _ (k : Record) where
@@ -151,6 +152,26 @@ module _ (k : Record) where
 
 pub same-board : (k : Record) (o : Op) → Whole (k .regs .words) → step k o .regs .board ≡ k .regs .board
 same-board k o six = board-of k (account k o six)
+
+-- and none changes how long the register file is
+module _ (k : Record) (six : Whole (k .regs .words)) where
+  event-whole : {o : Event} {q : Record} → Happens o k q → Whole (q .regs .words)
+  event-whole (not-happened p) = ap (λ (x : Record). length (x .regs .words)) p ∙ six
+  event-whole {o} (happened i f c p s) = ap length p ∙ rest o (k .regs .words) .whole ∙ six
+
+  interrupt-whole : {q : Record} → Interrupts k q → Whole (q .regs .words)
+  unfolding interrupted
+  interrupt-whole (refused p) = ap (λ (x : Record). length (x .regs .words)) p ∙ six
+  interrupt-whole (taken s p) = ap (λ (x : Record). length (x .regs .words)) p ∙ cleared-rest (k .regs .words) .whole ∙ six
+
+  whole-of : {o : Op} → Accounted k o → Whole (step k o .regs .words)
+  whole-of (gentle a) = keeps six (a .path) .six
+  whole-of (stalling w a) = keeps six (a .path) .six
+  whole-of (event n h) = event-whole h
+  whole-of (interrupt n i) = interrupt-whole i
+
+pub whole-step : (k : Record) (o : Op) → Whole (k .regs .words) → Whole (step k o .regs .words)
+whole-step k o six = whole-of k six (account k o six)
 
 -- no call but `on_interrupt` changes a pending interrupt
 pending-of : (k : Record) {o : Op} → Whole (k .regs .words) → Accounted k o → Stores o → Pending k (step k o)

@@ -15,3 +15,7 @@ pub mod Ends
 pub mod Demand
 pub mod Listed
 pub mod Memory
+pub mod Aside
+pub mod AsideTransfers
+pub mod AsideEvents
+pub mod Late

@@ -2,7 +2,7 @@
 -- Assumes nothing.
 use Prim.Native.Nat.{ℕ}
 use mathlib.Core.Bool.{Bool}
-use mathlib.Core.List.{List, []}
+use mathlib.Core.List.{List, [], foldl}
 use Rattle.board.specs.declared.Direction.{Direction}
 use Rattle.endpoints.specs.declared.Wanted.{Wanted}
 use Rattle.endpoints.specs.Endpoints.{Ask}
@@ -173,3 +173,7 @@ outcome k (overrun e) = answered (host.overrunCall k e)
 -- the record after an operation
 abbrev pub step : Record → Op → Record
 step k o = outcome k o .«record»
+
+-- and after more of them
+abbrev pub runs : Record → List Op → Record
+runs = foldl step

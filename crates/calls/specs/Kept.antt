@@ -23,9 +23,10 @@ pub record Pending (k q : Record) : Type 0 where
   pub intr : (d : Direction) → intrOf (q .regs .words) d ≡ intrOf (k .regs .words) d
 
 -- The kinds of operation: the two calls that write SendStall, stalling and the reset call (because enabling an endpoint writes TXCSRL or
--- RXCSRL from zeros); every other call of the driver; the one that reads the interrupt registers; and the host's events.
+-- RXCSRL from zeros); the poll, which takes flags away; the interrupt, which reads the interrupt registers into them; every other call of the driver; and the host's
+-- events.
 pub data Kind : Type 0 where
-  stalling plain interrupting hosted : Kind
+  stalling polling interrupting plain hosted : Kind
 
 abbrev pub kind : Op → Kind
 kind (allocEp q w) = plain
@@ -37,7 +38,7 @@ kind (write e b f l) = plain
 kind (read e b f l) = plain
 kind (setStalled e d s l) = stalling
 kind (isStalled e d l) = plain
-kind (poll l) = plain
+kind (poll l) = polling
 kind onInterrupt = interrupting
 kind forceReset = plain
 kind (arrival e b f) = hosted
@@ -52,8 +53,9 @@ kind (overrun e) = hosted
 -- the driver's calls that read no interrupt register
 abbrev pub storing : Kind → Type 0
 storing stalling = Unit
-storing plain = Unit
+storing polling = Unit
 storing interrupting = ⊥
+storing plain = Unit
 storing hosted = ⊥
 
 abbrev pub Stores : Op → Type 0
@@ -61,8 +63,9 @@ Stores o = storing (kind o)
 
 abbrev pub writing : Kind → Type 0
 writing stalling = Unit
-writing plain = ⊥
+writing polling = ⊥
 writing interrupting = ⊥
+writing plain = ⊥
 writing hosted = ⊥
 
 abbrev pub WritesStall : Op → Type 0

@@ -33,14 +33,18 @@ use Rattle.round_rules.specs.Poll.{PollOutcome, outcomeOf, ended, walkedOn, acc
 use Rattle.cases.specs.Rounds.{says, run, space, fresh, flagged, fiveWaits, bothTaken, rounds}
 
 -- reply 16's test with the table as an argument, so that it computes
-abbrev passesIn : List Row → Record → Bool
+abbrev pub passesIn : List Row → Record → Bool
 passesIn t k =
     regsSound (table.sizesOf t) (length t) (k .regs .words)
     also (ltb (k .irq .«ep_tx») (2 ^ length t) also ltb (k .irq .«ep_rx») (2 ^ length t))
 
-sound : (k : Record) → k .regs .board ≡ Display → passesIn display k ≡ true → recordSound k ≡ true
+-- whether it passes
+pub tested : (k : Record) → k .regs .board ≡ Display → recordSound k ≡ passesIn display k
 unfolding recordSound passes flagsSound
-sound k b p = ap (λ (t : List Row). passesIn t k) (ap rows b ∙ rows-display) ∙ p
+tested k b = ap (λ (t : List Row). passesIn t k) (ap rows b ∙ rows-display)
+
+sound : (k : Record) → k .regs .board ≡ Display → passesIn display k ≡ true → recordSound k ≡ true
+sound k b p = tested k b ∙ p
 
 -- a poll that is served, on a board of six endpoints
 abbrev short : Record → List ℕ → PollOutcome
@@ -72,7 +76,7 @@ runs (suc n) k l s =
     ∙ ap (λ (x : List (List ℕ)). says (short k l) ∷ x) (runs n (short k l .result .«record») (short k l .list) (s .3))
 
 -- an interrupt that is served, likewise
-abbrev shortTaken : Record → Record
+abbrev pub shortTaken : Record → Record
 shortTaken k = record {
   regs = record { board = k .regs .board; words = cleared (k .regs .words) };
   endpoints = k .endpoints;
@@ -80,7 +84,7 @@ shortTaken k = record {
   irq = taken 6 (snapshotOf (k .regs .words)) (k .irq);
 }
 
-taken-short : (k : Record) → k .regs .board ≡ Display → passesIn display k ≡ true → interruptCall k .«record» ≡ shortTaken k
+pub taken-short : (k : Record) → k .regs .board ≡ Display → passesIn display k ≡ true → interruptCall k .«record» ≡ shortTaken k
 unfolding interruptCall interrupted endpointsIn endpointsOf
 taken-short k b p = (λ i. interruptBy (sound k b p i) k .«record») ∙ rw (b, rows-display)
 

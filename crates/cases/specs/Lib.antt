@@ -2,4 +2,5 @@ pub mod Table
 pub mod Writes
 pub mod Readings
 pub mod Rounds
+pub mod Late
 pub mod Allocations

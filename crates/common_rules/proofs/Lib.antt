@@ -6,3 +6,4 @@ pub mod Enable
 pub mod Overrun
 pub mod Missed
 pub mod Walk
+pub mod Pending

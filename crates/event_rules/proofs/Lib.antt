@@ -2,3 +2,4 @@ pub mod Halts
 pub mod Others
 pub mod Promises
 pub mod AsWritten
+pub mod Raised

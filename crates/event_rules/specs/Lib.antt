@@ -1,3 +1,4 @@
 pub mod Events
+pub mod Raised
 pub mod Promise
 pub mod AsWritten

@@ -1,4 +1,4 @@
--- A history of the display for each sentence, computed: the one file of this crate that unfolds the register model. Assumes nothing.
+-- A history of the display for each sentence, computed: this file and LateHistories alone of this crate unfold the register model. Assumes nothing.
 use mathlib.Core.Path.{_≡_, refl, ap, subst, _∙_}
 use mathlib.Core.Bool.{Bool, true, false}
 use mathlib.Core.List.{List, [], _∷_, _++_}
@@ -6,7 +6,6 @@ use native.Mathlib.Nat.{le-refl}
 use lib.Dec.{T}
 use Rattle.laws.specs.Words.{bit, raised, clear, bitsBelow, setBits}
 use Rattle.board.specs.declared.Board.the-variants.{Display}
-use Rattle.board.specs.Boards.{display}
 use Rattle.register_file.specs.Registers.{freshFile, freshRegs, index, withIndex, intrusb, withIntrusb, intrOf, withIntr, sideWord, sideOf, sideIn, withSideIn, sideAt, withSide}
 use Rattle.register_file.specs.Control.{csr0lRead}
 use Rattle.csr.specs.Control.{txcsrlOf, rxcsrlOf, txStored, rxStored, txcsrlSet, rxcsrlSet, dropped}
@@ -34,7 +33,7 @@ use Rattle.rounds.specs.Sentences.{StillWaits, NextRound, Polls, none, more, Ro
 use Rattle.history.specs.Driver.{pollEvent}
 use Rattle.history.specs.Demands.{Slept}
 use Rattle.history.proofs.Demand.{not-empty}
-use Rattle.history.proofs.Sample.{list, Do, arrive, take, put, collect, reset, resume, suspend, irq, poll, op, ops, answer, answerIn, sample, M, at-start, event-of, answer-of, after-all, false-of, above-of, still-waits, next-round}
+use Rattle.history.proofs.Sample.{list, Do, arrive, take, put, collect, reset, resume, suspend, irq, poll, op, ops, sample, M, at-start, false-of, above-of, still-waits, next-round, answers, replies, answers-is, given, says, given-is}
 
 -- 1. Packets at 1 and 5, of which 1 is read: 5 waits through a round, and the next names it and not 1.
 abbrev one-read : List Do
@@ -62,25 +61,6 @@ woken = reset ∷ resume ∷ suspend ∷ irq ∷ []
 -- A chart row comes, and the lid is closed before the device has looked: Suspend is told, and the next poll names the row.
 abbrev asleep : List Do
 asleep = arrive 5 ∷ suspend ∷ irq ∷ []
-
--- what a poll after a history answers, and what it gives
-abbrev pub answers : List Do → PollAnswer
-answers h = answer (after M (ops h))
-
-abbrev replies : List Do → PollAnswer
-replies h = answerIn display true (after sample h)
-
-answers-is : (h : List Do) → answers h ≡ replies h
-answers-is h = answer-of (after-all at-start h)
-
-abbrev pub given : List Do → Event
-given h = M .event (after M (ops h)) (op poll)
-
-abbrev says : List Do → Event
-says h = sample .event (after sample h) poll
-
-given-is : (h : List Do) → given h ≡ says h
-given-is h = event-of (after-all at-start h) poll
 
 record Computed : Type 0 where
   waits : StillWaits sample 5 (arrive 1 ∷ []) (arrive 5) one-read poll

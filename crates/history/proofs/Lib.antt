@@ -11,6 +11,8 @@ pub mod Lengths
 pub mod Fetching
 pub mod Demand
 pub mod Whole
+pub mod Late
 pub mod Sample
 pub mod Histories
+pub mod LateHistories
 pub mod Demands

@@ -1,7 +1,7 @@
 -- A few operations on the display, lent what they need, as a machine that computes: the board's table stands written out, and that a
 -- record passes reply 16's test is known. Its histories are the driver's own. Assumes nothing.
 use mathlib.Core.Path.{_≡_, refl, sym, ap, subst, _∙_}
-use mathlib.Core.Bool.{Bool, true, false, not, _&&_, _||_}
+use mathlib.Core.Bool.{Bool, true, false, not, _&&_, _||_, cond}
 use mathlib.Core.List.{List, [], _∷_, map}
 use Prim.Native.Nat.{ℕ, _+_}
 use lib.Dec.{T, ltb, leb}
@@ -34,9 +34,10 @@ use Rattle.round_rules.specs.Poll.{PollOutcome, outcomeOf, pollLogged, pollServ
 use Rattle.host_rules.specs.Host as host
 use Rattle.calls.specs.Calls.{Op, step}
 use Rattle.calls.specs.Calls as calls
-use Rattle.rounds.specs.Machine.{Event, quiet, Machine, isRound, isInterrupt, arrivesAt, names, arrivesAbove, count, run, some, Stays, falseNamings, arrivalsAbove, endsInRound}
+use Rattle.rounds.specs.Machine.{Event, quiet, Machine, isRound, isInterrupt, arrivesAt, names, arrivesAbove, count, run, after, some, Stays, falseNamings, arrivalsAbove, endsInRound}
 use Rattle.rounds.specs.Sentences.{StillWaits, NextRound}
 use Rattle.history.specs.Driver.{event, pollEvent, interruptEvent, arrivalEvent, waiting, lengthAt, takes, brings, driver}
+use Rattle.history.specs.Late.{roundsFrom}
 use Rattle.history.proofs.Look.{Kept}
 use Rattle.history.proofs.Demand.{kept-fresh, kept-step}
 
@@ -257,6 +258,10 @@ pub above-of : (e : ℕ) {k q : Record} → Both k q → (h : List Do) → arriv
 above-of e x [] = refl
 above-of e x (o ∷ h) = λ i. count (arrivesAbove e (event-of x o i)) + above-of e (after-one x o) h i
 
+pub rounds-of : {k q : Record} → Both k q → (h : List Do) → roundsFrom M k (ops h) ≡ roundsFrom sample q h
+rounds-of x [] = refl
+rounds-of x (o ∷ h) = λ i. cond (isRound (event-of x o i)) (event-of x o i ∷ rounds-of (after-one x o) h i) (rounds-of (after-one x o) h i)
+
 -- the sentences' premises, from the sample's history to the driver's
 back : (test : Event → Bool) {v w : Event} → v ≡ w → T (test w) → T (test v)
 back test p t = subst (λ (x : Event). T (test x)) (sym p) t
@@ -282,3 +287,22 @@ next-round h k p w =
       between = none (some-of isRound x k) (w .between);
       polled = back isRound (event-of (after-all x k) p) (w .polled);
     }
+
+-- what a poll after a history answers, and what it gives
+abbrev pub answers : List Do → PollAnswer
+answers h = answer (after M (ops h))
+
+abbrev pub replies : List Do → PollAnswer
+replies h = answerIn display true (after sample h)
+
+pub answers-is : (h : List Do) → answers h ≡ replies h
+answers-is h = answer-of (after-all at-start h)
+
+abbrev pub given : List Do → Event
+given h = M .event (after M (ops h)) (op poll)
+
+abbrev pub says : List Do → Event
+says h = sample .event (after sample h) poll
+
+pub given-is : (h : List Do) → given h ≡ says h
+given-is h = event-of (after-all at-start h) poll

@@ -1,3 +1,4 @@
 pub mod Driver
 pub mod Demands
 pub mod Whole
+pub mod Late

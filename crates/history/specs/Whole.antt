@@ -10,10 +10,10 @@ use lib.ListN.{length, take, drop}
 use Rattle.board.specs.declared.Direction.the-variants.{Out}
 use Rattle.record.specs.declared.Record.{Record}
 use Rattle.record.specs.Record.{areaOf}
-use Rattle.calls.specs.Calls.{Op, read, arrival, Outcome, outcome}
+use Rattle.calls.specs.Calls.{Op, read, arrival, Outcome, outcome, runs}
 use Rattle.calls.specs.Kept.{Good}
 use Rattle.calls.specs.Memory.{OneFifo, fifoAfterAll}
-use Rattle.rounds.specs.Machine.{run, Stays, taken}
+use Rattle.rounds.specs.Machine.{Stays, taken}
 use Rattle.rounds.specs.Sentences.{Endpoint}
 use Rattle.control_state.specs.declared.ControlStateEnum.the-variants.{DataOut}
 use Rattle.history.specs.Driver.{lengthAt, driver}
@@ -37,10 +37,6 @@ pub record ReadsWhole (k : Record) (e : ℕ) (f x : List ℕ) (o : Outcome) : Ty
 -- 1. "we were told it was whole": a read that is done gives all of the packet that waits. Of any record, at any endpoint, lent anything.
 abbrev pub DoneIsWhole : Type 0
 DoneIsWhole = (k : Record) (e : ℕ) (x f l : List ℕ) → outcome k (read e x f l) .reply ≡ 0 → ReadsWhole k e f x (outcome k (read e x f l))
-
--- the record after the operations h from k on
-abbrev pub runs : Record → List Op → Record
-runs k h = run (driver (k .regs .board)) k h
 
 -- the next read at e, lent the buffer y, the list m, and FIFO memory as the operations h have left it
 abbrev pub nextRead : Record → ℕ → List ℕ → List Op → List ℕ → List ℕ → Outcome

@@ -5,3 +5,5 @@ pub mod AsWritten
 pub mod Modified
 pub mod Soundness
 pub mod Done
+pub mod Pending
+pub mod Raised

@@ -5,3 +5,4 @@ pub mod Named
 pub mod Halts
 pub mod AsWritten
 pub mod Told
+pub mod Pending

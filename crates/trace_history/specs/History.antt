@@ -5,7 +5,7 @@ use Prim.Native.Nat.{ℕ, zero, suc}
 use mathlib.Core.Path.{_≡_}
 use mathlib.Core.List.{List, [], _∷_, _++_, foldl}
 use lib.ListN.{length, take}
-use Rattle.calls.specs.Calls.{Op, outcome, step}
+use Rattle.calls.specs.Calls.{Op, outcome, runs}
 use Rattle.trace_rules.specs.Lines.{line, endLine, badLine}
 use Rattle.trace_rules.specs.declared.Entry.{Entry}
 use Rattle.trace_rules.specs.declared.Parsed.{Parsed}
@@ -68,4 +68,4 @@ pub record Along (s : List ℕ) (x₀ : State) (text : List ℕ) (n : ℕ) (x : 
   pub leads : foldl after x₀ (take n (operationsOf x₀ s)) ≡ x
   pub lines : linesOf x₀ (take n (operationsOf x₀ s)) ≡ text
   -- what demands 1 and 3 speak of: a history of records
-  pub history : foldl step (x₀ .«record») (take n (operationsOf x₀ s)) ≡ x .«record»
+  pub history : runs (x₀ .«record») (take n (operationsOf x₀ s)) ≡ x .«record»
