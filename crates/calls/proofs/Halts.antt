@@ -1,6 +1,7 @@
 -- Only stalling and the reset call change SendStall of endpoints 1 to 5. Assumes nothing.
 use Prim.Native.Nat.{ℕ}
 use mathlib.Core.Path.{_≡_, refl, ap, _∙_}
+use mathlib.Core.Bool.{Bool}
 use mathlib.Core.Logic.{_⊎_, inl, inr}
 use mathlib.Core.List.{List}
 use Rattle.csr.specs.declared.Side.{Side}
@@ -26,7 +27,7 @@ module _ (k : Record) where
   unchanged : {q : File} → q ≡ k .regs .words → SameHalts (k .regs .words) q
   unchanged p = through p (λ e d n. refl)
 
-  call-halts : {l m : List ℕ} {q : Record} {n : ℕ} → Whole (k .regs .words) → Account (Gentle (k .regs .board)) k l q m n
+  call-halts : {x : Bool} {l m : List ℕ} {q : Record} {n : ℕ} → Whole (k .regs .words) → Account (Gentle (k .regs .board)) x k l q m n
       → SameHalts (k .regs .words) (q .regs .words)
   call-halts {l = l} {q = q} {n = n} six a = go (a .served)
     where

@@ -17,6 +17,7 @@ use Rattle.event_rules.specs.Promise.{Event}
 use Rattle.event_rules.proofs.Promises.{rest}
 use Rattle.call_rules.specs.Interrupt.{interrupted, interruptBy, interruptCall}
 use Rattle.calls.specs.Calls.{Op, allocEp, busInit, enable, reset, setDeviceAddress, write, read, setStalled, isStalled, poll, onInterrupt, forceReset, arrival, collection, busReset, suspend, resume, setupEnd, underrun, overrun, outcome, step}
+use Rattle.calls.specs.DataEnd.{endsData}
 use Rattle.calls.specs.Demand.{lent}
 use Rattle.calls.specs.Kept.{Good, Pending, Stores, WritesStall}
 use Rattle.calls.proofs.Steps.{Step, Sane, Gentle, Holds, keeps, holds}
@@ -77,7 +78,7 @@ on-interrupt k = go (recordSound k) refl
 
 -- the account of all that an operation leaves
 abbrev pub By : (Board → Step → Log → Type 0) → Record → Op → Type 0
-By May k o = Account (May (k .regs .board)) k (lent o .list) (step k o) (outcome k o .list) (outcome k o .stores)
+By May k o = Account (May (k .regs .board)) (endsData k o) k (lent o .list) (step k o) (outcome k o .list) (outcome k o .stores)
 
 pub data Accounted (k : Record) (o : Op) : Type 0 where
   gentle : By Gentle k o → Accounted k o
@@ -109,7 +110,7 @@ account k (overrun e) six = event (λ c. c) (happening.overrun k e)
 
 -- the record stays good
 module _ (k : Record) where
-  call-good : {l m : List ℕ} {q : Record} {n : ℕ} → Account (Sane (k .regs .board)) k l q m n → Good k → Good q
+  call-good : {x : Bool} {l m : List ℕ} {q : Record} {n : ℕ} → Account (Sane (k .regs .board)) x k l q m n → Good k → Good q
   call-good {q = q} a g = good-after q (a .board) refl (holds (a .path) (to-holds k (g .sound) (g .six))) (a .flags (g .sound .tx, g .sound .rx))
 
   event-good : {o : Event} {q : Record} → Happens o k q → Good k → Good q

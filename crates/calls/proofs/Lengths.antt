@@ -89,7 +89,7 @@ does-lasting : (o : Store) (g : Log) (e : ℕ) → Whole (g .regs) → file.inde
 does-lasting o g e six low = rw (sides o g e Out six low) (leaves-lasting o (file.index (g .regs)) e (sideAt (g .regs) e Out))
 
 -- the stores of a call
-path-lasting : {b : Board} {g h : Log} {c : ℕ} → Reached (Sane b) g c h → Holds b (g .regs) → (e : ℕ) → Lasting (sideAt (g .regs) e Out) (sideAt (h .regs) e Out)
+path-lasting : {b : Board} {x : Bool} {g h : Log} {c : ℕ} → Reached (Sane b) g x c h → Holds b (g .regs) → (e : ℕ) → Lasting (sideAt (g .regs) e Out) (sideAt (h .regs) e Out)
 path-lasting none k e = same
 path-lasting (within r d i) k e = path-lasting r k e
 path-lasting (then {h} r (one o) m) k e =
@@ -123,7 +123,7 @@ leaves-length (events.miss f Out) e s c = made (eqb e f) s _ refl
 leaves-length (events.miss f In) e s c = made (eqb e f) s s refl
 
 module _ (k : Record) where
-  stores-lasting : {q : Record} {l m : List ℕ} {n : ℕ} → Account (Sane (k .regs .board)) k l q m n → Good k → (e : ℕ) → Lasting (sideAt (k .regs .words) e Out) (sideAt (q .regs .words) e Out)
+  stores-lasting : {x : Bool} {q : Record} {l m : List ℕ} {n : ℕ} → Account (Sane (k .regs .board)) x k l q m n → Good k → (e : ℕ) → Lasting (sideAt (k .regs .words) e Out) (sideAt (q .regs .words) e Out)
   stores-lasting a g e = path-lasting (a .path) (to-holds k (g .sound) (g .six)) e
 
   call-of : {o : Op} → Accounted k o → Good k → Stores o → (e : ℕ) → Lasting (sideAt (k .regs .words) e Out) (sideAt (step k o .regs .words) e Out)

@@ -14,6 +14,10 @@ pub mod Lengths
 pub mod Ends
 pub mod Demand
 pub mod Listed
+pub mod DataEnds
+pub mod Turning
+pub mod PollTurning
+pub mod Control
 pub mod Memory
 pub mod Aside
 pub mod AsideTransfers

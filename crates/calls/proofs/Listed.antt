@@ -73,7 +73,7 @@ module _ (r : File) (l : List ℕ) where
   store intrusbe h six t = entered intrusbe h six refl t
   store (intre d v) h six t = entered (intre d v) h six refl t
 
-  leads : {May : Step → Log → Type 0} {h : Log} {c : ℕ} → Whole r → Reached May (log r l 0) c h → To h
+  leads : {May : Step → Log → Type 0} {x : Bool} {h : Log} {c : ℕ} → Whole r → Reached May (log r l 0) x c h → To h
   leads six none = start
   leads six (then {h} p (one o) m) = store o h (keeps six p .six) (leads six p)
   leads six (then {h} p (sent n o) m) =
@@ -87,14 +87,14 @@ module _ (r : File) (l : List ℕ) where
       listed-other m n (register o) (file.index (does o (log q m n) .regs)) (value o) i z (inr (omega arith)) ∙ stays t i z (omega arith)
 
 -- how many stores a path counts
-counted : (o : Store) (h : Log) {c : ℕ} → Whole (h .regs) → h .count ≤ c → does o h .count ≤ c + 1
+pub counted : (o : Store) (h : Log) {c : ℕ} → Whole (h .regs) → h .count ≤ c → does o h .count ≤ c + 1
 counted o h {c} six i = rw (noted.others o h six .count) (go (isListed o))
   where
     go : (b : Bool) → cond b (h .count + 1) (h .count) ≤ c + 1
     go true = omega arith
     go false = omega arith
 
-few : {May : Step → Log → Type 0} {g h : Log} {c : ℕ} → Whole (g .regs) → g .count ≡ 0 → Reached May g c h → h .count ≤ c
+pub few : {May : Step → Log → Type 0} {x : Bool} {g h : Log} {c : ℕ} → Whole (g .regs) → g .count ≡ 0 → Reached May g x c h → h .count ≤ c
 few six z none = omega (arith, z)
 few six z (then {h} p (one o) m) = counted o h (keeps six p .six) (few six z p)
 few six z (then {h} {c} p (sent n o) m) =
@@ -145,7 +145,7 @@ module _ (k : Record) where
   abbrev plain : Admission
   plain = admissionBy false (recordSound k) false
 
-  others : (o : Op) → (Stores o → ⊥) → Unlisted k o
+  pub others : (o : Op) → (Stores o → ⊥) → Unlisted k o
   unfolding interruptCall host.arrivalCall host.collectionCall host.busResetCall host.suspendCall host.resumeCall host.setupEndCall host.underrunCall host.overrunCall host.missCall wire.busReset wire.busSuspend wire.busResume
   others onInterrupt n = record { regs = interrupt-left (recordSound k); list = refl; count = refl }
   others (arrival e b f) n = record { regs = arrival-left (events.arrival e (length b)) f _ (host.arrivalRefusal k e (length b) (length f)); list = refl; count = refl }
@@ -173,7 +173,7 @@ module _ (k : Record) where
   has-room q l n i (inl p) = omega (arith, p .1)
   has-room q l n i (inr p) = omega (arith, p .1)
 
-  called : {May : Step → Log → Type 0} (o : Op) → Whole r → Account May k (lent o .list) (step k o) (outcome k o .list) (outcome k o .stores) → Listed k o
+  called : {May : Step → Log → Type 0} {x : Bool} (o : Op) → Whole r → Account May x k (lent o .list) (step k o) (outcome k o .list) (outcome k o .stores) → Listed k o
   called o six a =
       let t = leads r (lent o .list) six (a .path) in
       record {

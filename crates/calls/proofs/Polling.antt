@@ -75,7 +75,7 @@ set-below n w h = bits-below n w 6 [] h tt
 
 module _ (b : Board) (g : Log) where
   abbrev Path : ℕ → Log → Type 0
-  Path c h = Reached (Careful b) g c h
+  Path c h = Reached (Careful b) g false c h
 
   -- the overrun check
   repair : {c : ℕ} (h : Log) (e : ℕ) → e < length (rows b) → Path c h → Path (c + 3) (repaired h e)
@@ -85,7 +85,7 @@ module _ (b : Board) (g : Log) where
       let q = at-most (c + 2) (txcsrlRead (writeIndex e h .regs) .«under_run») (tx-modifies p NoUnderRun) p (omega arith) (omega arith) in
       at-most (c + 3) (rxcsrlRead (underRunCleared (writeIndex e h) .regs) .«over_run») (rx-repairs q) q (omega arith) (omega arith)
 
-  repair-all : (m i : ℕ) {c : ℕ} (h : Log) → i + m ≤ length (rows b) → Path c h → Path (c + m * 3) (foldl repaired h (numbers i m))
+  pub repair-all : (m i : ℕ) {c : ℕ} (h : Log) → i + m ≤ length (rows b) → Path c h → Path (c + m * 3) (foldl repaired h (numbers i m))
   unfolding numbers
   repair-all zero i {c} h k r = within r (c + 0 * 3) (omega arith)
   repair-all (suc m) i {c} h k r = within (repair-all m (suc i) (repaired h i) (omega arith) (repair h i (omega arith) r)) (c + suc m * 3) (omega arith)
@@ -212,7 +212,7 @@ module _ (k : Record) (l : List ℕ) where
       (within (p .0) 128 (omega (arith, at-most-six board)), p .1)
 
   abbrev Accounted : PollOutcome → Type 0
-  Accounted o = Account (Careful board) k l (o .result .«record») (o .list) (o .result .stores)
+  Accounted o = Account (Careful board) false k l (o .result .«record») (o .list) (o .result .stores)
 
   pub poll : Accounted (pollCall k l)
   unfolding pollCall pollAdmitted recordSound

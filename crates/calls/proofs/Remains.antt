@@ -69,7 +69,7 @@ module _ (k : Record) where
 
   module _ (six : Whole (k .regs .words)) where
     -- a call that stores to RXCSRL at most to repair an overrun
-    pub careful-remain : {l m : List ℕ} {q : Record} {n : ℕ} → Account (Careful (k .regs .board)) k l q m n → Remain none k q
+    pub careful-remain : {x : Bool} {l m : List ℕ} {q : Record} {n : ℕ} → Account (Careful (k .regs .board)) x k l q m n → Remain none k q
     careful-remain {l = l} {q = q} {n = n} a = go (a .served)
       where
         go : ((q .regs .words ≡ k .regs .words) × (n ≡ 0)) ⊎ Passes k l → Remain none k q

@@ -1,6 +1,6 @@
 -- The accounts of the simple calls: which stores each makes. Assumes nothing.
 use Prim.Native.Nat.{ℕ, zero, suc, _+_, _*_, _<_, _≤_}
-use mathlib.Core.Path.{_≡_, refl}
+use mathlib.Core.Path.{_≡_, refl, subst}
 use mathlib.Core.Bool.{Bool, true, false, not}
 use mathlib.Core.List.{List, []}
 use mathlib.Core.Logic.{inl}
@@ -17,13 +17,14 @@ use Rattle.csr.specs.declared.Csr0lSet.the-variants.{ServicedBoth}
 use Rattle.csr.specs.declared.TxcsrlSet.the-variants as tx-set
 use Rattle.csr.specs.declared.RxcsrlSet.the-variants as rx-set
 use Rattle.register_file.specs.Registers.{enabledOf}
+use Rattle.register_file.proofs.Modified.{sets-data-end}
 use Rattle.csr.specs.Control.{csr0lBits, txcsrlBits, rxcsrlBits}
 use Rattle.control_state.specs.declared.ControlState.{ControlState}
 use Rattle.endpoints.specs.declared.EndpointData.{EndpointData}
 use Rattle.endpoints.specs.declared.Wanted.{Wanted}
 use Rattle.endpoints.specs.Endpoints.{Ask, blank}
 use Rattle.store_rules.specs.Stores.{Log, modifyCsr0l, modifyIntre}
-use Rattle.store_rules.specs.Promise.{faddr, power, index, csr0l, csr0h, txcsrl, rxcsrl, iso, maxp, intrusbe, intre}
+use Rattle.store_rules.specs.Promise.{does, faddr, power, index, csr0l, csr0h, txcsrl, rxcsrl, iso, maxp, intrusbe, intre}
 use Rattle.store_rules.proofs.Promises.{modify-csr0l, modify-txcsrl, modify-rxcsrl, modify-intre}
 use Rattle.common_rules.specs.Common.{busInit, selected, stallCsr0l, writeCsrl, epTxStall, epRxStall, isStalled}
 use Rattle.common_rules.specs.Enable.{flushedZero, enabledZero, sized, settled, isoWritten, waits, flush, flushed, enabledOther, enabled, epTxEnable, epRxEnable}
@@ -51,19 +52,19 @@ passes k l x c = let t = none-refused (short l) (recordSound k) x c in (t .1, lt
 
 -- the account of all that a call leaves
 abbrev Called : (Step → Log → Type 0) → Record → List ℕ → CallOutcome → Type 0
-Called May k l o = Account May k l (o .call .«record») (o .list) (o .call .stores)
+Called May k l o = Account May false k l (o .call .«record») (o .list) (o .call .stores)
 
 abbrev Told : (Step → Log → Type 0) → Record → List ℕ → StalledOutcome → Type 0
-Told May k l o = Account May k l (o .call .«record») (o .list) (o .call .stores)
+Told May k l o = Account May false k l (o .call .«record») (o .list) (o .call .stores)
 
 -- a call that is refused stores nothing
 module _ {May : Step → Log → Type 0} (k : Record) (l : List ℕ) where
-  unless-refused : (c : ControlState) (g : Log) {m : ℕ} (t : Admission) → (t ≡ Clear → Passes k l) → m ≤ 128 → (t ≡ Clear → Reached May (begun k l) m g)
+  unless-refused : (c : ControlState) (g : Log) {m : ℕ} (t : Admission) → (t ≡ Clear → Passes k l) → m ≤ 128 → (t ≡ Clear → Reached May (begun k l) false m g)
       → Called May k l (unless t k l (stored k c g))
   unless-refused c g (Refused x) s i f = left refl refl
   unless-refused c g Clear s i f = stores l g (s refl) (within (f refl) 128 i) refl refl refl
 
-  told-unless : (b : Bool) (g : Log) {m : ℕ} (t : Admission) → (t ≡ Clear → Passes k l) → m ≤ 128 → (t ≡ Clear → Reached May (begun k l) m g)
+  told-unless : (b : Bool) (g : Log) {m : ℕ} (t : Admission) → (t ≡ Clear → Passes k l) → m ≤ 128 → (t ≡ Clear → Reached May (begun k l) false m g)
       → Told May k l (unlessStalled t k l (stalledOf k b g))
   told-unless b g (Refused x) s i f = left refl refl
   told-unless b g Clear s i f = stores l g (s refl) (within (f refl) 128 i) refl refl refl
@@ -73,11 +74,11 @@ module _ (k : Record) where
   abbrev b : Board
   b = k .regs .board
 
-  pub alloc-ep : (q : Ask) (w : Wanted) → Account (Careful b) k [] (allocEpCall k q w .«record») [] 0
+  pub alloc-ep : (q : Ask) (w : Wanted) → Account (Careful b) false k [] (allocEpCall k q w .«record») [] 0
   unfolding allocEpCall allocEp
   alloc-ep q w = go (admissionBy false (recordSound k) false)
     where
-      go : (t : Admission) → Account (Careful b) k [] (unlessAllocated t k (allocEp k q w) .«record») [] 0
+      go : (t : Admission) → Account (Careful b) false k [] (unlessAllocated t k (allocEp k q w) .«record») [] 0
       go (Refused x) = left refl refl
       go Clear = left refl refl
 
@@ -112,7 +113,7 @@ module _ (k : Record) where
 -- stalling and the reset call, which write SendStall
 module _ (b : Board) (g : Log) where
   abbrev Made : ℕ → Log → Type 0
-  Made c h = Reached (Sane b) g c h
+  Made c h = Reached (Sane b) g false c h
 
   csrl-made : (d : Direction) (s t : Bool) {c : ℕ} (h : Log) → Made c h → Made (c + 1) (writeCsrl d s t h)
   unfolding writeCsrl
@@ -136,7 +137,9 @@ module _ (b : Board) (g : Log) where
   intre-made d e h r = rw (modify-intre d e h) (then r (one (intre d (raised (enabledOf d (h .regs)) e))) tt)
 
   serviced-made : {c : ℕ} (h : Log) → Made c h → Made (c + 1) (modifyCsr0l ServicedBoth h)
-  serviced-made h r = rw (modify-csr0l ServicedBoth h) (then r (one (zeroModify ServicedBoth h)) tt)
+  serviced-made {c} h r =
+      rw (modify-csr0l ServicedBoth h)
+      (subst (λ (x : Bool). Reached (Sane b) g x (c + 1) (does (zeroModify ServicedBoth h) h)) (sets-data-end ServicedBoth (h .regs)) (then r (one (zeroModify ServicedBoth h)) tt))
 
   enabled-zero : {c : ℕ} (h : Log) → Made c h → Made (c + 3) (enabledZero h)
   unfolding enabledZero flushedZero

@@ -44,13 +44,33 @@ abbrev pub most : Step → ℕ
 most (one o) = 1
 most (sent n o) = 2
 
--- h is g after some steps, each of which was allowed where it was made, and no more than c stores
-pub data Reached (May : Step → Log → Type 0) (g : Log) : ℕ → Log → Type 0 where
-  none : Reached May g 0 g
-  then : {h : Log} {c : ℕ} → Reached May g c h → (s : Step) → May s h → Reached May g (c + most s) (makes s h)
-  within : {h : Log} {c : ℕ} → Reached May g c h → (d : ℕ) → c ≤ d → Reached May g d h
+-- whether it stores DataEnd, which ends the data of a control transfer
+abbrev pub dataEnd : Store → Bool
+dataEnd (csr0l w) = w .«data_end»
+dataEnd (faddr a) = false
+dataEnd power = false
+dataEnd (index e) = false
+dataEnd csr0h = false
+dataEnd (txcsrl w) = false
+dataEnd (rxcsrl w) = false
+dataEnd (iso d) = false
+dataEnd (maxp d n) = false
+dataEnd intrusbe = false
+dataEnd (intre d v) = false
+dataEnd (packet n) = false
 
-pub weaken : {May Might : Step → Log → Type 0} {g h : Log} {c : ℕ} → ((s : Step) (x : Log) → May s x → Might s x) → Reached May g c h → Reached Might g c h
+abbrev pub closes : Step → Bool
+closes (one o) = dataEnd o
+closes (sent n o) = dataEnd o
+
+-- h is g after some steps, each of which was allowed where it was made, and no more than c stores. Nothing comes after DataEnd, and the first index
+-- says whether it was stored.
+pub data Reached (May : Step → Log → Type 0) (g : Log) : Bool → ℕ → Log → Type 0 where
+  none : Reached May g false 0 g
+  then : {h : Log} {c : ℕ} → Reached May g false c h → (s : Step) → May s h → Reached May g (closes s) (c + most s) (makes s h)
+  within : {e : Bool} {h : Log} {c : ℕ} → Reached May g e c h → (d : ℕ) → c ≤ d → Reached May g e d h
+
+pub weaken : {May Might : Step → Log → Type 0} {e : Bool} {g h : Log} {c : ℕ} → ((s : Step) (x : Log) → May s x → Might s x) → Reached May g e c h → Reached Might g e c h
 weaken f none = none
 weaken f (then r s m) = then (weaken f r) s (f s _ m)
 weaken f (within r d i) = within (weaken f r) d i
@@ -92,7 +112,7 @@ SameStalls (sent n o) g = SameStall o (does (packet n) g .regs)
 abbrev pub Gentle : Board → Step → Log → Type 0
 Gentle b s g = Sane b s g × SameStalls s g
 
-pub gentle-sane : {b : Board} {g h : Log} {c : ℕ} → Reached (Gentle b) g c h → Reached (Sane b) g c h
+pub gentle-sane : {b : Board} {x : Bool} {g h : Log} {c : ℕ} → Reached (Gentle b) g x c h → Reached (Sane b) g x c h
 gentle-sane r = weaken (λ s x m. m .0) r
 
 -- and no packet that waits to be read at 1 to 5 is dropped
@@ -103,7 +123,7 @@ Sparing (sent n o) g = Apart o
 abbrev pub Careful : Board → Step → Log → Type 0
 Careful b s g = Gentle b s g × Sparing s g
 
-pub careful-gentle : {b : Board} {g h : Log} {c : ℕ} → Reached (Careful b) g c h → Reached (Gentle b) g c h
+pub careful-gentle : {b : Board} {x : Bool} {g h : Log} {c : ℕ} → Reached (Careful b) g x c h → Reached (Gentle b) g x c h
 careful-gentle r = weaken (λ s x m. m .0) r
 
 -- the parts of the registers that any step keeps: the pending interrupts, and that there are 46 numbers
@@ -117,7 +137,7 @@ same-one o g k =
     let t = rest o g (k .six) in
     record { usb = t .usb ∙ k .usb; intr = λ d. t .intr d ∙ k .intr d; six = t .whole ∙ k .six }
 
-pub keeps : {May : Step → Log → Type 0} {g h : Log} {c : ℕ} → Whole (g .regs) → Reached May g c h → Same (g .regs) (h .regs)
+pub keeps : {May : Step → Log → Type 0} {x : Bool} {g h : Log} {c : ℕ} → Whole (g .regs) → Reached May g x c h → Same (g .regs) (h .regs)
 keeps six none = record { usb = refl; intr = λ d. refl; six = six }
 keeps six (then {h} r (one o) m) = same-one o h (keeps six r)
 keeps six (then {h} r (sent n o) m) = same-one o (does (packet n) h) (same-one (packet n) h (keeps six r))
@@ -271,14 +291,14 @@ module _ {b : Board} (n : ℕ) (o : Store) (g : Log) (m : Sends b n o g) (k : Ho
           by (yes p) = ready-here e p
           by (no q) = elsewhere e In (packet-other n _ e _ q)
 
-pub holds : {b : Board} {g h : Log} {c : ℕ} → Reached (Sane b) g c h → Holds b (g .regs) → Holds b (h .regs)
+pub holds : {b : Board} {x : Bool} {g h : Log} {c : ℕ} → Reached (Sane b) g x c h → Holds b (g .regs) → Holds b (h .regs)
 holds none k = k
 holds (then {h} r (one o) m) k = holds-one o h m (holds r k)
 holds (then {h} r (sent n o) m) k = holds-sent n o h m (holds r k)
 holds (within r c i) k = holds r k
 
 -- SendStall of endpoints 1 to 5
-pub same-halts : {b : Board} {g h : Log} {c : ℕ} → Reached (Gentle b) g c h → Holds b (g .regs) → SameHalts (g .regs) (h .regs)
+pub same-halts : {b : Board} {x : Bool} {g h : Log} {c : ℕ} → Reached (Gentle b) g x c h → Holds b (g .regs) → SameHalts (g .regs) (h .regs)
 same-halts none k e d n = refl
 same-halts (then {h} r (one o) m) k e d n =
     let t = holds (gentle-sane r) k .standing in
@@ -295,7 +315,7 @@ same-halts (within r c i) k e d n = same-halts r k e d n
 abbrev pub SameReady : File → File → Type 0
 SameReady r q = (e : ℕ) → (e ≡ 0 → ⊥) → sideAt q e Out .ready ≡ sideAt r e Out .ready
 
-pub same-ready : {b : Board} {g h : Log} {c : ℕ} → Reached (Careful b) g c h → Holds b (g .regs) → SameReady (g .regs) (h .regs)
+pub same-ready : {b : Board} {x : Bool} {g h : Log} {c : ℕ} → Reached (Careful b) g x c h → Holds b (g .regs) → SameReady (g .regs) (h .regs)
 same-ready none k e n = refl
 same-ready (then {h} r (one o) m) k e n =
     let t = holds (gentle-sane (careful-gentle r)) k in

@@ -1,7 +1,7 @@
 -- The account of `write`: the index, then a packet with its ready bit, and DataEnd where the data end. Assumes nothing.
 use Prim.Native.Nat.{ℕ, _≤_, _<_}
 use mathlib.Core.Path.{_≡_, refl, sym, ap, subst, _∙_}
-use mathlib.Core.Bool.{Bool, true, false, not, _&&_, cond}
+use mathlib.Core.Bool.{Bool, true, false, _&&_, cond}
 use mathlib.Core.List.{List}
 use mathlib.Core.Logic.{inl, inr}
 use borrow.Author.Tests.{eq-eqb, eqb-true, ltb-false}
@@ -18,7 +18,7 @@ use Rattle.csr.specs.declared.TxcsrlSet.the-variants as txcsrl
 use Rattle.register_file.specs.Registers as file
 use Rattle.register_file.specs.Registers.{Whole, sideAt, chosen}
 use Rattle.csr.proofs.Modified.{tx-readied}
-use Rattle.register_file.proofs.Modified.{zero-readied}
+use Rattle.register_file.proofs.Modified.{zero-readied, sets-data-end}
 use Rattle.store_rules.specs.Stores.{Log, log, writeIndex, modifyCsr0l, modifyTxcsrl}
 use Rattle.store_rules.specs.Promise.{index, packet, does, leaves}
 use Rattle.store_rules.proofs.Promises.{rest, modify-csr0l, modify-txcsrl}
@@ -40,9 +40,10 @@ use Rattle.transfer_rules.proofs.WriteCases.{uncollected, tooLong, notWritable,
 use Rattle.transfer_rules.proofs.WriteVerdicts.{tests-are}
 use Rattle.transfer_rules.proofs.WriteAnswers.{call-is, exactly}
 use Rattle.laws.proofs.Tests.{clash}
+use Rattle.calls.specs.DataEnd.{ends}
 use Rattle.calls.proofs.Steps as steps
 use Rattle.calls.proofs.Steps.{Reached, none, then, within, one, Careful, Readies}
-use Rattle.calls.proofs.Accounts.{Low, Account, Passes, lent-passes, left, stores, by-test, txModify, zeroModify, zero-modifies, there}
+use Rattle.calls.proofs.Accounts.{Low, Account, Passes, lent-passes, left, stores, by-test, txModify, zeroModify, zero-modifies, is-empty, no-end, there}
 
 -- TxPktRdy is set
 tx-readies : (h : Log) → eqb (file.index (h .regs)) 0 ≡ false → Readies (txModify txcsrl.TxPktRdy h) (h .regs)
@@ -65,10 +66,14 @@ module _ (k : Record) (ep n : ℕ) (l : List ℕ) (s : Passes k l) (i : ep < len
   chose = writeIndex ep begun
 
   abbrev Path : ℕ → Log → Type 0
-  Path c h = Reached (Careful b) begun c h
+  Path c h = Reached (Careful b) begun false c h
 
-  abbrev Fine : After → Type 0
-  Fine o = Account (Careful b) k l (leaving k o) (o .log .list) (o .log .count)
+  abbrev Fine : Bool → After → Type 0
+  Fine e o = Account (Careful b) e k l (leaving k o) (o .log .list) (o .log .count)
+
+  -- DataEnd is stored where the data that the state s has are at an end
+  abbrev Closes : ControlStateEnum → After → Type 0
+  Closes s o = Fine (ends s (o .control .state)) o
 
   selects : Path 1 chose
   selects = then none (one (index ep)) ((i, tt), inl tt)
@@ -95,54 +100,49 @@ module _ (k : Record) (ep n : ℕ) (l : List ℕ) (s : Passes k l) (i : ep < len
     zero-path : ep ≡ 0 → Path 3 (modifyCsr0l csr0l.TxPktRdy (loaded ep n begun))
     unfolding loaded
     zero-path z =
-        rw (modify-csr0l csr0l.TxPktRdy (does (packet n) chose))
-        (then selects (steps.sent n (zeroModify csr0l.TxPktRdy (does (packet n) chose)))
-        ((record { fits = room; proper = tt; readies = zero-readies (does (packet n) chose) (chosen-is ∙ z) }, tt), tt))
+        let mid = does (packet n) chose in
+        rw (modify-csr0l csr0l.TxPktRdy mid)
+        (subst (λ (x : Bool). Reached (Careful b) begun x 3 (does (zeroModify csr0l.TxPktRdy mid) mid)) (sets-data-end csr0l.TxPktRdy (mid .regs))
+        (then selects (steps.sent n (zeroModify csr0l.TxPktRdy mid)) ((record { fits = room; proper = tt; readies = zero-readies mid (chosen-is ∙ z) }, tt), tt)))
 
   empty-path : n ≡ 0 → Path 3 (loaded ep n begun)
   unfolding loaded
   empty-path z = within (then selects (one (packet n)) ((z, tt), inl tt)) 3 (lit≤ tt)
 
-  finish : (c : ControlState) (f : Flags) (g : Log) {m : ℕ} → m ≤ 128 → Path m g → (Low b (k .irq) → Low b f) → Fine (after c f g)
+  finish : {e : Bool} (c : ControlState) (f : Flags) (g : Log) {m : ℕ} → m ≤ 128 → Reached (Careful b) begun e m g → (Low b (k .irq) → Low b f) → Fine e (after c f g)
   finish c f g i r low = record { path = within r 128 i; board = refl; served = inr s; flags = low }
 
-  ends : (c : ControlState) (g : Log) → Path 3 g → Fine (ended c (k .irq) g)
+  closed : (c : ControlState) (g : Log) → Path 3 g → Fine true (ended c (k .irq) g)
   unfolding ended
-  ends c g r = finish c (k .irq) _ {m = 4} (lit≤ tt) (zero-modifies r csr0l.DataEnd) (λ f. f)
+  closed c g r = finish c (k .irq) _ {m = 4} (lit≤ tt) (zero-modifies r csr0l.DataEnd) (λ f. f)
 
-  in-data : (t : ℕ) (g : Log) → Path 3 g → Fine (dataIn n t (k .«control_state») (k .irq) g)
-  unfolding dataIn
-  in-data t g r =
+  in-data : (t : ℕ) (g : Log) → k .«control_state» .state ≡ DataIn → Path 3 g → Closes DataIn (dataIn n t (k .«control_state») (k .irq) g)
+  unfolding dataIn ended
+  in-data t g e r =
       let c = decreased (k .«control_state») n in
-      by-test Fine (eqb (c .«tx_len») 0) (ends _ g r) (by-test Fine (ltb n t) (ends _ g r) (finish c (k .irq) g {m = 3} (lit≤ tt) r (λ f. f)))
-
-  empty : not (eqb n 0) ≡ false → n ≡ 0
-  empty e = go (eqb n 0) refl e
-    where
-      go : (z : Bool) → eqb n 0 ≡ z → not z ≡ false → n ≡ 0
-      go true p q = eqb-true n 0 p
-      go false p q = clash q
+      by-test (Closes DataIn) (eqb (c .«tx_len») 0) (closed _ g r)
+      (by-test (Closes DataIn) (ltb n t) (closed _ g r) (subst (λ (s : ControlStateEnum). Fine (ends DataIn s) (after c (k .irq) g)) (sym e) (finish c (k .irq) g {m = 3} (lit≤ tt) r (λ f. f))))
 
   -- endpoint 0: reply 11 came before wherever a packet would stay without its ready bit
-  at-zero : (t : ℕ) (s : ControlStateEnum) → ep ≡ 0 → n ≤ areaIn b ep In .size → untakenIn s n ≡ false
-      → Fine (sentZero s n t (k .«control_state») (k .irq) (loaded ep n begun))
+  at-zero : (t : ℕ) (s : ControlStateEnum) → k .«control_state» .state ≡ s → ep ≡ 0 → n ≤ areaIn b ep In .size → untakenIn s n ≡ false
+      → Closes s (sentZero s n t (k .«control_state») (k .irq) (loaded ep n begun))
   unfolding sentDataIn nodataPhase accepted
-  at-zero t NodataPhase z h w = finish _ _ _ {m = 3} (lit≤ tt) (empty-path (empty w)) (λ f. (raised-lt _ _ 0 (f .0) (at-least-one b), f .1))
-  at-zero t DataIn z h w = in-data t _ (zero-path h z)
-  at-zero t Idle z h w = finish _ (k .irq) _ {m = 3} (lit≤ tt) (empty-path (empty w)) (λ f. f)
-  at-zero t Setup z h w = clash w
-  at-zero t DataOut z h w = clash w
-  at-zero t Accepted z h w = clash w
+  at-zero t NodataPhase e z h w = finish _ _ _ {m = 3} (lit≤ tt) (empty-path (is-empty n w)) (λ f. (raised-lt _ _ 0 (f .0) (at-least-one b), f .1))
+  at-zero t DataIn e z h w = in-data t _ e (zero-path h z)
+  at-zero t Idle e z h w = finish _ (k .irq) _ {m = 3} (lit≤ tt) (empty-path (is-empty n w)) (λ f. f)
+  at-zero t Setup e z h w = clash w
+  at-zero t DataOut e z h w = clash w
+  at-zero t Accepted e z h w = clash w
 
-  sends : (t : ℕ) → n ≤ areaIn b ep In .size → notWritable k ep n ≡ false → Fine (sent ep n t (k .«control_state») (k .irq) (loaded ep n begun))
+  sends : (t : ℕ) → n ≤ areaIn b ep In .size → notWritable k ep n ≡ false → Closes (k .«control_state» .state) (sent ep n t (k .«control_state») (k .irq) (loaded ep n begun))
   unfolding sent sentOther tests.notWritable
   sends t h w = go (eqb ep 0) refl w
     where
       go : (z : Bool) → eqb ep 0 ≡ z → (z && untakenIn (k .«control_state» .state) n) ≡ false
-          → Fine (cond z (sentZero (k .«control_state» .state) n t (k .«control_state») (k .irq) (loaded ep n begun))
+          → Closes (k .«control_state» .state) (cond z (sentZero (k .«control_state» .state) n t (k .«control_state») (k .irq) (loaded ep n begun))
           (sentOther (k .«control_state») (k .irq) (loaded ep n begun)))
-      go true p u = at-zero t (k .«control_state» .state) (eqb-true ep 0 p) h u
-      go false p u = finish (k .«control_state») (k .irq) _ {m = 3} (lit≤ tt) (other-path h p) (λ f. f)
+      go true p u = at-zero t (k .«control_state» .state) refl (eqb-true ep 0 p) h u
+      go false p u = rw (no-end (k .«control_state» .state)) (finish (k .«control_state») (k .irq) _ {m = 3} (lit≤ tt) (other-path h p) (λ f. f))
 
 module _ (k : Record) (ep : ℕ) (b f l : List ℕ) (six : Whole (k .regs .words)) where
   not-long : tooLong k ep (length b) ≡ false → length b ≤ areaIn (k .regs .board) ep In .size
@@ -159,7 +159,11 @@ module _ (k : Record) (ep : ℕ) (b f l : List ℕ) (six : Whole (k .regs .words
       (ownTests (uncollected k ep) (tooLong k ep (length b)) (notWritable k ep (length b)))
 
   abbrev Accounted : WriteOutcome → Type 0
-  Accounted o = Account (Careful (k .regs .board)) k l (o .result .«record») (o .list) (o .result .stores)
+  Accounted o =
+      Account (Careful (k .regs .board)) (ends (k .«control_state» .state) (o .result .«record» .«control_state» .state)) k l (o .result .«record») (o .list) (o .result .stores)
+
+  abbrev same : ends (k .«control_state» .state) (k .«control_state» .state) ≡ false
+  same = no-end (k .«control_state» .state)
 
   by-row : {m : ℕ} → WriteCase k ep (length b) (length f) (length l) m → Accounted (by tested)
   unfolding writeDone blocked
@@ -167,12 +171,12 @@ module _ (k : Record) (ep : ℕ) (b f l : List ℕ) (six : Whole (k .regs .words
       rw (a .lent, a .passes, a .there, s, t, u) (sends k ep (length b) l (lent-passes k f l (a .passes) (a .lent)) (there k ep (a .there)) six (txSize k) (not-long t) u)
   by-row (blocks a s) =
       let p = lent-passes k f l (a .passes) (a .lent) in
-      rw (a .lent, a .passes, a .there, s) (stores l _ p (within (selects k ep (length b) l p (there k ep (a .there)) six) 128 (lit≤ tt)) refl refl refl)
-  by-row (beyond p q r) = rw (p, q, r) (left refl refl)
-  by-row (long a s t) = rw (a .lent, a .passes, a .there, s, t) (left refl refl)
-  by-row (untaken a s t u) = rw (a .lent, a .passes, a .there, s, t, u) (left refl refl)
-  by-row (little p) = rw p (left refl refl)
-  by-row (unsound p q) = rw (p, q) (left refl refl)
+      rw (a .lent, a .passes, a .there, s, same) (stores l _ p (within (selects k ep (length b) l p (there k ep (a .there)) six) 128 (lit≤ tt)) refl refl refl)
+  by-row (beyond p q r) = rw (p, q, r, same) (left refl refl)
+  by-row (long a s t) = rw (a .lent, a .passes, a .there, s, t, same) (left refl refl)
+  by-row (untaken a s t u) = rw (a .lent, a .passes, a .there, s, t, u, same) (left refl refl)
+  by-row (little p) = rw (p, same) (left refl refl)
+  by-row (unsound p q) = rw (p, q, same) (left refl refl)
 
   pub write : Accounted (writeCall k ep b f l)
   write =

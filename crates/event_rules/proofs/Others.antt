@@ -77,6 +77,15 @@ pub rx-alone : (r : File) → Whole r → Clears 8 r (intrCleared r Out)
 unfolding intrCleared withIntr
 rx-alone r six = set-clears r 8 six (omega arith)
 
+-- SetupEnd among it, which is number 9: the three reads of an interrupt leave it
+pub reads-keep-end : (r : File) → Whole r → file.setupend (intrCleared (intrCleared (intrusbCleared r) In) Out) ≡ file.setupend r
+unfolding file.setupend
+reads-keep-end r six =
+    let u = usb-alone r six in
+    let t = tx-alone (intrusbCleared r) (u .whole ∙ six) in
+    let v = rx-alone (intrCleared (intrusbCleared r) In) (t .whole ∙ u .whole ∙ six) in
+    ap (λ (n : ℕ). eqb n 1) (v .others 9 (λ z. omega arith) ∙ t .others 9 (λ z. omega arith) ∙ u .others 9 (λ z. omega arith))
+
 -- no event clears RxPktRdy, and none SetupEnd (`ends`): that is left to the driver's stores
 either : (b : Bool) (x y : Side) → (y .ready ≡ true → x .ready ≡ true) → y .ready ≡ true → cond b x y .ready ≡ true
 either true x y f p = f p

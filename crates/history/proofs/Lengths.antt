@@ -1,6 +1,6 @@
 -- Over every operation: what waits has the length that it arrived with. Assumes nothing.
 use mathlib.Core.Path.{_≡_, refl, sym, ap, subst, _∙_}
-use mathlib.Core.Bool.{Bool, true, false, not, cond, _&&_}
+use mathlib.Core.Bool.{Bool, not, cond, _&&_}
 use mathlib.Core.List.{List}
 use Prim.Native.Nat.{ℕ}
 use borrow.Author.Tests.{eq-eqb, ne-eqb}
@@ -25,16 +25,12 @@ use Rattle.calls.proofs.Happening as happening
 use Rattle.calls.proofs.Lengths.{call-lasting, event-keeps, interrupt-keeps}
 use Rattle.rounds.specs.Machine.{arrivesAt}
 use Rattle.rounds.specs.Sentences.{Endpoint}
-use Rattle.rounds.proofs.Tests.{or-right, and-both}
+use Rattle.rounds.proofs.Tests.{or-right, and-both, is-up}
 use Rattle.history.specs.Driver.{pollEvent, interruptEvent, arrivalEvent, event, waiting, lengthAt, takes, brings, driver}
 use Rattle.history.proofs.Look.{Kept}
 use Rattle.history.proofs.Arrivals.{refusal, arrivalOf, arrival-is, none-waited, there}
 use Rattle.history.proofs.Steps.{poll-brings-none, interrupt-brings-none}
 use Rattle.history.proofs.Packets.{lasts}
-
-up : (b : Bool) → T b → b ≡ true
-up true t = refl
-up false t = absurd t
 
 module _ (b : Board) (k : Record) (kept : Kept b k) (e : ℕ) where
   -- an arrival: what came is as long as it came, and what waited elsewhere as it was
@@ -95,7 +91,7 @@ module _ (b : Board) (k : Record) (kept : Kept b k) (e : ℕ) where
 
   -- a call that stores: what is still there is as long
   stored : (o : Op) → Stores o → T (waiting (step k o) e) → lengthAt (step k o) e ≡ lengthAt k e
-  stored o c v = call-lasting k o (kept .good) c e .len (up _ v)
+  stored o c v = call-lasting k o (kept .good) c e .len (is-up _ v)
 
   -- at any endpoint, 0 too, what waits before an operation and after it
   pub still-long : (o : Op) → T (waiting k e) → T (waiting (step k o) e) → lengthAt (step k o) e ≡ lengthAt k e

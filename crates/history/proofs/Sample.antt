@@ -42,7 +42,7 @@ use Rattle.history.proofs.Look.{Kept}
 use Rattle.history.proofs.Demand.{kept-fresh, kept-step}
 
 -- what is lent, and the packet that goes either way
-abbrev fifo : List ℕ
+abbrev pub fifo : List ℕ
 fifo = replicate 1664 0
 
 abbrev pub list : List ℕ
@@ -71,7 +71,7 @@ op irq = calls.onInterrupt
 op poll = calls.poll list
 
 -- What they leave, with the table t and the answer of reply 16's test as arguments: an interrupt, a poll, and then each.
-abbrev irqIn : Bool → List Row → Record → Record
+abbrev pub irqIn : Bool → List Row → Record → Record
 irqIn true t k = record {
   regs = record { board = k .regs .board; words = cleared (k .regs .words) };
   endpoints = k .endpoints;
@@ -80,7 +80,7 @@ irqIn true t k = record {
 }
 irqIn false t k = k
 
-abbrev pollIn : Admission → List Row → Record → PollOutcome
+abbrev pub pollIn : Admission → List Row → Record → PollOutcome
 pollIn (Refused x) t k = outcomeOf k (pollWhen (Refused x) (k .regs .board) (log (k .regs .words) list 0) (k .«control_state») (k .irq))
 pollIn Clear t k = outcomeOf k (pollLogged (repairedBelow (length t) (log (k .regs .words) list 0)) (k .«control_state») (k .irq))
 
@@ -142,13 +142,13 @@ module _ (t : List Row) (passes : Bool) (k : Record) where
   eventIn poll = pollEvent answerIn
 
 -- the driver's are these, over its own table
-poll-in : (k : Record) (x : Admission)
+pub poll-in : (k : Record) (x : Admission)
     → outcomeOf k (pollWhen x (k .regs .board) (log (k .regs .words) list 0) (k .«control_state») (k .irq)) ≡ pollIn x (rows (k .regs .board)) k
 unfolding pollServed checkOverrun endpointsIn
 poll-in k (Refused x) = refl
 poll-in k Clear = refl
 
-irq-in : (k : Record) (passes : Bool) → interruptBy passes k .«record» ≡ irqIn passes (rows (k .regs .board)) k
+pub irq-in : (k : Record) (passes : Bool) → interruptBy passes k .«record» ≡ irqIn passes (rows (k .regs .board)) k
 unfolding interrupted endpointsIn endpointsOf
 irq-in k true = refl
 irq-in k false = refl
@@ -214,10 +214,10 @@ pub at-start : Both (M .fresh) (sample .fresh)
 at-start = record { kept = kept-fresh Display; same = refl }
 
 module _ {k q : Record} (x : Both k q) where
-  table : rows (k .regs .board) ≡ display
+  pub table : rows (k .regs .board) ≡ display
   table = ap rows (x .kept .board) ∙ rows-display
 
-  passes : recordSound k ≡ true
+  pub passes : recordSound k ≡ true
   passes = sound-record-passes k (x .kept .good .sound)
 
   pub after-one : (o : Do) → Both (M .step k (op o)) (sample .step q o)

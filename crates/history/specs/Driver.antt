@@ -23,7 +23,8 @@ use Rattle.round_rules.specs.declared.PollAnswer.{PollAnswer}
 use Rattle.round_rules.specs.declared.PollAnswer.the-variants as polled
 use Rattle.round_rules.specs.Poll.{pollCall}
 use Rattle.host_rules.specs.Host.{arrivalCall}
-use Rattle.calls.specs.Calls.{Op, allocEp, busInit, enable, reset, setDeviceAddress, write, read, setStalled, isStalled, poll, onInterrupt, forceReset, arrival, collection, busReset, suspend, resume, setupEnd, underrun, overrun, outcome, step}
+use Rattle.calls.specs.Calls.{Op, allocEp, busInit, enable, reset, setDeviceAddress, write, read, setStalled, isStalled, poll, onInterrupt, forceReset, arrival, collection, busReset, suspend, resume, setupEnd, underrun, overrun, step}
+use Rattle.calls.specs.Control.{answered}
 use Rattle.rounds.specs.Machine as rounds
 use Rattle.rounds.specs.Machine.{Event, Machine, round, interrupt, pause, quiet}
 use Rattle.rounds.specs.Sentences.{Calls}
@@ -110,9 +111,6 @@ brings (overrun e) = 0
 -- The operations that take what waits at e, when they are answered: a read at e; stalling or unstalling e out, for "the source's `write`
 -- also drops a waiting packet at 1 to 5"; and the reset call where e is used to receive, for it enables e anew, and so writes RXCSRL from
 -- zeros too. Nothing else does: no poll, no interrupt, no write, no event of the host.
-abbrev pub answered : Record → Op → Bool
-answered k o = eqb (outcome k o .reply) 0
-
 abbrev pub takes : Record → Op → ℕ → Bool
 takes k (read i b f l) e = answered k (read i b f l) && eqb e i
 takes k (setStalled i Out s l) e = answered k (setStalled i Out s l) && eqb e i

@@ -1,7 +1,7 @@
 -- What each `modify` of CSR0L of the source does to the sides of endpoint 0 and to SetupEnd.
 -- Assumes nothing.
 use mathlib.Core.Path.{_≡_, refl, ap, _∙_}
-use mathlib.Core.Bool.{Bool, not, _&&_, and-true, or-true, and-self, or-self}
+use mathlib.Core.Bool.{Bool, true, false, not, _&&_, and-true, or-true, and-self, or-self}
 use Rattle.board.specs.declared.Direction.the-variants.{Out, In}
 use Rattle.csr.specs.declared.Csr0lSet.{Csr0lSet}
 use Rattle.csr.specs.declared.Csr0lSet.the-variants as csr0l
@@ -25,7 +25,7 @@ zero-kept r csr0l.ServicedSetupEnd n = rw (or-self (sideAt r 0 In .ready), and-s
 zero-kept r csr0l.ServicedBoth n = rw (or-self (sideAt r 0 In .ready), and-self (sideAt r 0 In .stalled))
 
 -- on its receive side: the packet is answered, or it waits on; and SetupEnd is answered, or stays
-answers : (r : File) (s : Csr0lSet)
+pub answers : (r : File) (s : Csr0lSet)
     → (csr0lSet s (csr0lRead r) .«serviced_rx_pkt_rdy» ≡ answersPacket s) × (csr0lSet s (csr0lRead r) .«serviced_setup_end» ≡ answersEnd s)
 unfolding csr0lSet csr0lRead
 answers r csr0l.TxPktRdy = (refl, refl)
@@ -39,6 +39,22 @@ zero-answered r s six = zero-out _ r six ∙ ap (λ (b : Bool). dropped b (sideA
 
 pub zero-ends : (r : File) (s : Csr0lSet) → Whole r → setupend (csr0lStored (csr0lSet s (csr0lRead r)) r) ≡ (setupend r && not (answersEnd s))
 zero-ends r s six = setup-ends _ r six ∙ ap (λ (b : Bool). setupend r && not b) (answers r s .1)
+
+-- DataEnd reads 0, so that a `modify` stores it just where it is the one that sets it
+abbrev pub isDataEnd : Csr0lSet → Bool
+isDataEnd csr0l.DataEnd = true
+isDataEnd csr0l.TxPktRdy = false
+isDataEnd csr0l.ServicedRxPktRdy = false
+isDataEnd csr0l.ServicedSetupEnd = false
+isDataEnd csr0l.ServicedBoth = false
+
+pub sets-data-end : (s : Csr0lSet) (r : File) → csr0lSet s (csr0lRead r) .«data_end» ≡ isDataEnd s
+unfolding csr0lSet csr0lRead
+sets-data-end csr0l.DataEnd r = refl
+sets-data-end csr0l.TxPktRdy r = refl
+sets-data-end csr0l.ServicedRxPktRdy r = refl
+sets-data-end csr0l.ServicedSetupEnd r = refl
+sets-data-end csr0l.ServicedBoth r = refl
 
 -- servicing a setup end leaves a packet waiting
 pub zero-still-waits : (r : File) → dropped (csr0lSet csr0l.ServicedSetupEnd (csr0lRead r) .«serviced_rx_pkt_rdy») (sideAt r 0 Out) ≡ sideAt r 0 Out

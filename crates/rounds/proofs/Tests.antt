@@ -42,6 +42,10 @@ pub put-down : (a b : Bool) → T b → T (not (a && not b))
 put-down true b t = not-T (not b) (λ n. T-not b n t)
 put-down false b t = tt
 
+pub is-up : (a : Bool) → T a → a ≡ true
+is-up true t = refl
+is-up false t = absurd t
+
 pub is-down : (a : Bool) → T (not a) → a ≡ false
 is-down true t = absurd t
 is-down false t = refl

@@ -4,8 +4,8 @@ use Prim.Native.Nat.{ℕ, _+_, _*_, _<_, _≤_}
 use mathlib.Core.Path.{_≡_, refl, _∙_}
 use native.Mathlib.Omega.{arith}
 use lib.Dec.{lit<}
-use lib.ListN.{length, getD, set, drop}
-use lib.Seq.{getD-set-other}
+use lib.ListN.{length, length-set, getD, set, drop}
+use lib.Seq.{getD-set-same, getD-set-other}
 use mathlib.Core.List.{List, [], _∷_}
 use mathlib.Core.Logic.{_⊎_, inl, inr}
 use Rattle.store_list.specs.Stores.{listed}
@@ -21,6 +21,26 @@ listed-other l n a e v i z h =
     getD-set-other (set (set l (n * 3) a) (n * 3 + 1) e) (n * 3 + 2) i v z (far i n 2 (lit< tt) h)
     ∙ getD-set-other (set l (n * 3) a) (n * 3 + 1) i e z (far i n 1 (lit< tt) h)
     ∙ getD-set-other l (n * 3) i a z (λ (p : i ≡ n * 3). far i n 0 (lit< tt) h (omega arith))
+
+-- a store stands at its place, where the list has room for it
+module _ (l : List ℕ) (n a e v : ℕ) where
+  pub listed-length : length (listed l n a e v) ≡ length l
+  unfolding listed
+  listed-length = length-set (set (set l (n * 3) a) (n * 3 + 1) e) (n * 3 + 2) v ∙ length-set (set l (n * 3) a) (n * 3 + 1) e ∙ length-set l (n * 3) a
+
+  module _ (room : n * 3 + 3 ≤ length l) where
+    pub listed-register : getD (listed l n a e v) (n * 3) 0 ≡ a
+    unfolding listed
+    listed-register =
+        getD-set-other (set (set l (n * 3) a) (n * 3 + 1) e) (n * 3 + 2) (n * 3) v 0 (λ p. omega arith)
+        ∙ getD-set-other (set l (n * 3) a) (n * 3 + 1) (n * 3) e 0 (λ p. omega arith)
+        ∙ getD-set-same l (n * 3) a 0 (omega arith)
+
+    pub listed-value : getD (listed l n a e v) (n * 3 + 2) 0 ≡ v
+    unfolding listed
+    listed-value =
+        getD-set-same (set (set l (n * 3) a) (n * 3 + 1) e) (n * 3 + 2) v 0
+        (omega (arith, length-set (set l (n * 3) a) (n * 3 + 1) e, length-set l (n * 3) a))
 
 -- the first store of a list
 pub listed-first : (l : List ℕ) (register endpoint value : ℕ) → 3 ≤ length l → listed l 0 register endpoint value ≡ register ∷ endpoint ∷ value ∷ drop 3 l

@@ -5,7 +5,6 @@ pub mod ReadCases
 pub mod Readings
 pub mod WriteTests
 pub mod WriteZero
-pub mod Phases
 pub mod WriteAnswers
 pub mod Write
 pub mod WriteReplies
@@ -18,4 +17,5 @@ pub mod Read
 pub mod ReadReplies
 pub mod ReadVerdicts
 pub mod Setup
+pub mod Phases
 pub mod Transfers

@@ -44,7 +44,7 @@ serviced g = record {
   unanswered = refl;
 }
 
-data-end : (g : Log) → StoresZero true false g (modifyCsr0l csr0l.DataEnd g)
+pub data-end : (g : Log) → StoresZero true false g (modifyCsr0l csr0l.DataEnd g)
 unfolding modifyCsr0l csr0lSet csr0lRead
 data-end g = record {
   word = csr0lSet csr0l.DataEnd (csr0lRead (g .regs));

@@ -104,6 +104,7 @@ module _ (k : Record) (e : ℕ) (bytes x l : List ℕ) where
     pub admitted : Admitted k e (length x) (length l)
     pub uncollected : write-cases.uncollected k e ≡ false
     pub fits : write-cases.tooLong k e n ≡ false
+    pub taken : write-cases.notWritable k e n ≡ false
     pub clear : write-tests.tests k e n (length x) (length l) ≡ Clear
 
   passed-by : {m : ℕ} → write-cases.WriteCase k e n (length x) (length l) m → m ≡ 0 → Passed
@@ -111,6 +112,7 @@ module _ (k : Record) (e : ℕ) (bytes x l : List ℕ) where
     admitted = a;
     uncollected = s;
     fits = t;
+    taken = u;
     clear = write-verdicts.tests-are k e n (length x) (length l) ∙ rw (a .lent, a .passes, a .there, s, t, u);
   }
   passed-by (write-cases.blocks a s) z = absurd (omega arith)
@@ -121,10 +123,10 @@ module _ (k : Record) (e : ℕ) (bytes x l : List ℕ) where
   passed-by (write-cases.unsound p q) z = absurd (omega arith)
 
   module _ (done : writeNumber (whose .result .answer) ≡ 0) where
-    passed : Passed
+    pub passed : Passed
     passed = passed-by (write-answers.exactly k e bytes x l 0 .0 done) refl
 
-    call-done : whose ≡ write.outcome k (write-answers.ran-by k e bytes x l Clear)
+    pub call-done : whose ≡ write.outcome k (write-answers.ran-by k e bytes x l Clear)
     call-done = write-answers.call-is k e bytes x l ∙ ap (λ (v : Verdict). write.outcome k (write-answers.ran-by k e bytes x l v)) (passed .clear)
 
     short-enough : n ≤ areaOf k e In .size
@@ -213,12 +215,14 @@ module _ (k : Record) (e : ℕ) (buf x l : List ℕ) where
 
   pub record Readable : Type 0 where
     pub admitted : Admitted k e (length x) (length l)
+    pub told : read-cases.notReadable k e ≡ false
     pub roomy : read-cases.overflows k e (length buf) ≡ false
     pub clear : read-tests.tests k e (length buf) (length x) (length l) ≡ Clear
 
   readable-by : {m : ℕ} → read-cases.ReadCase k e (length buf) (length x) (length l) m → m ≡ 0 → Readable
   readable-by (read-cases.done a s t u v) z = record {
     admitted = a;
+    told = t;
     roomy = v;
     clear = read-verdicts.told k e (length buf) (length x) (length l) ∙ rw (a .lent, a .passes, a .there, s, t, u, v);
   }
@@ -231,10 +235,10 @@ module _ (k : Record) (e : ℕ) (buf x l : List ℕ) where
   readable-by (read-cases.unsound p q) z = absurd (omega arith)
 
   module _ (done : readNumber (reading .result .answer) ≡ 0) where
-    readable : Readable
+    pub readable : Readable
     readable = readable-by (read-answers.exactly k e buf x l 0 .0 done) refl
 
-    read-done : reading ≡ read-answers.tested k e buf x l Clear
+    pub read-done : reading ≡ read-answers.tested k e buf x l Clear
     read-done = read-answers.by-tests k e buf x l ∙ ap (read-answers.tested k e buf x l) (readable .clear)
 
     len-fits : len ≤ areaOf k e Out .size

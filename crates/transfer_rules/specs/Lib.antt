@@ -1,6 +1,5 @@
 pub mod Peek
 pub mod WriteTests
-pub mod Phases
 pub mod WriteZero
 pub mod WriteReplies
 pub mod Write
@@ -9,4 +8,5 @@ pub mod ReadZero
 pub mod Read
 pub mod ReadReplies
 pub mod Setup
+pub mod Phases
 pub mod Transfers

@@ -1,0 +1,3 @@
+pub mod Download
+pub mod Sample
+pub mod Histories
