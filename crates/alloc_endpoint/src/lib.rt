@@ -1,5 +1,8 @@
 // Allocation of endpoints (the source's alloc_endpoint.rs, its fixed half), over a board's table.
 // The source changes its array of endpoints in place; here the array goes in by value and comes back beside the answer.
+
+#![tactic(auto)]
+
 ghost use Rattle.std.specs.Prelude.{◌≡◌, ◌<◌};
 ghost use Rattle.board.specs.Boards.{rows};
 ghost use Rattle.endpoints.specs.Endpoints.{ask};

@@ -6,7 +6,7 @@ use Prim.Native.Nat.{ℕ, ◌+◌, ◌*◌, ◌≤◌, ◌<◌}
 use native.Mathlib.Omega.{arith}
 use native.Mathlib.Numerals.{add-one}
 use lib.ListN.{get_or, set, length, length-set, take, replicate}
-use lib.Seq.{get_or-set_same, get_or_set_other, ext_get_or}
+use lib.Seq.{get_or-set_same, get_or-set_other, ext_get_or}
 use borrow.Author.Count.{below_none, below_more}
 use Rattle.board.specs.declared.Row.{Row}
 use Rattle.board.specs.declared.Direction.TheVariants.{Out, In}
@@ -22,7 +22,7 @@ put : (f : ℕ → ℕ) (m : ℕ) (l : List ℕ) (n x : ℕ) → Filled f m l n 
 put f m l n x w h e = record {
   so_far =
       below_more (λ (k : ℕ). get_or (set l n x) k 0 ≡ f k) n
-      (λ k g. get_or_set_other l n k x 0 (λ same. omega (arith, same, g)) ∙ w.so_far k g)
+      (λ k g. get_or-set_other l n k x 0 (λ same. omega (arith, same, g)) ∙ w.so_far k g)
       (get_or-set_same l n x 0 (omega (arith, w.long)) ∙ e);
   long = length-set l n x ∙ w.long;
 }

@@ -1,5 +1,8 @@
 // What the source keeps in its common_impl.rs, first part: the bus and stalling.
 // Each function is lent the register file, takes how many stores stand in the lent list, and gives back how many stand there now.
+
+#![tactic(auto)]
+
 ghost use Rattle.std.specs.Prelude.{◌≡◌, not, ◌+◌, ◌*◌, ◌≤◌, length};
 ghost use Rattle.board.specs.declared.Direction.TheVariants.{Out, In};
 ghost use Rattle.store_rules.specs.Stores.{log, write_index};

@@ -1,10 +1,13 @@
 // The control states of endpoint 0 and the length that is left to send (the source's control_state.rs).
 // The source keeps both in atomics behind `&self`; here a value goes in and the changed value comes out.
+
+#![tactic(auto)]
+
 ghost use Rattle.std.specs.Prelude.{◌≡◌};
 ghost use Rattle.control_state.specs.Control.{idle, with_state, with_tx_len, decreased};
 ghost use Rattle.control_state.specs.Numbers.{state_number};
 
-#[derive(Drop)]
+#[derive(Clone, Copy)]
 pub enum ControlStateEnum {
     Idle,
     Setup,
@@ -14,7 +17,7 @@ pub enum ControlStateEnum {
     NodataPhase,
 }
 
-#[derive(Drop)]
+#[derive(Clone, Copy)]
 pub struct ControlState {
     pub state: ControlStateEnum,
     pub tx_len: u32,

@@ -1,9 +1,11 @@
 // Document 01's control registers: their bits by name (here), what a store does to one side of an endpoint and the number that it lists
 // (specs/), and document 01's sentences about them as laws (proofs/). No function: csr_ops has them.
 
+#![tactic(auto)]
+
 // One direction of an endpoint. In Rust's words In is TX and Out is RX.
 // Endpoint 0's SendStall and SentStall stand in its transmit side.
-#[derive(Drop)]
+#[derive(Clone, Copy)]
 pub struct Side {
     // TxPktRdy or RxPktRdy
     pub ready: bool,
@@ -21,7 +23,7 @@ pub struct Side {
 }
 
 // CSR0L, from bit 0.
-#[derive(Drop)]
+#[derive(Clone, Copy)]
 pub struct Csr0l {
     pub rx_pkt_rdy: bool,
     pub tx_pkt_rdy: bool,
@@ -34,7 +36,7 @@ pub struct Csr0l {
 }
 
 // TXCSRL, from bit 0.
-#[derive(Drop)]
+#[derive(Clone, Copy)]
 pub struct Txcsrl {
     pub tx_pkt_rdy: bool,
     pub fifo_not_empty: bool,
@@ -46,7 +48,7 @@ pub struct Txcsrl {
 }
 
 // RXCSRL, from bit 0.
-#[derive(Drop)]
+#[derive(Clone, Copy)]
 pub struct Rxcsrl {
     pub rx_pkt_rdy: bool,
     pub fifo_full: bool,
@@ -59,7 +61,7 @@ pub struct Rxcsrl {
 }
 
 // What the source's closures set in a `modify` of CSR0L.
-#[derive(Drop)]
+#[derive(Clone, Copy)]
 pub enum Csr0lSet {
     TxPktRdy,
     DataEnd,
@@ -69,7 +71,7 @@ pub enum Csr0lSet {
 }
 
 // The same of TXCSRL: a bit set, or UnderRun put down.
-#[derive(Drop)]
+#[derive(Clone, Copy)]
 pub enum TxcsrlSet {
     TxPktRdy,
     FlushFifo,
@@ -77,7 +79,7 @@ pub enum TxcsrlSet {
 }
 
 // The same of RXCSRL: a bit set, or one put down.
-#[derive(Drop)]
+#[derive(Clone, Copy)]
 pub enum RxcsrlSet {
     NoRxPktRdy,
     FlushFifo,

@@ -1,5 +1,8 @@
 // The control registers in code: crate `csr` says what each function comes to.
 // `&`, `|` and `!` on bools are the rules of document 01 word for word.
+
+#![tactic(auto)]
+
 ghost use Rattle.std.specs.Prelude.{◌≡◌, cond, ◌≤◌, ◌<◌};
 ghost use Rattle.csr.specs.Registers.{no_side};
 ghost use Rattle.csr.specs.Control.{unless, csr0l_number, txcsrl_number, rxcsrl_number, txcsrl_of, rxcsrl_of, zero_csr0l, zero_txcsrl, zero_rxcsrl, tx_stored, rx_stored, zero_tx_stored, dropped, csr0l_set, txcsrl_set, rxcsrl_set};

@@ -8,7 +8,7 @@ use mathlib.Core.Bool.{cond}
 use mathlib.Core.List.{List}
 use lib.Dec.{eqb}
 use lib.ListN.{length, get_or, length-set}
-use lib.Seq.{get_or-set_same, get_or_set_other}
+use lib.Seq.{get_or-set_same, get_or-set_other}
 use Rattle.laws.specs.Words.{bit}
 use Rattle.board.specs.declared.Direction.{Direction}
 use Rattle.board.specs.declared.Direction.TheVariants.{Out, In}
@@ -80,7 +80,7 @@ module _ (ns : List ℕ) where
     zero_keep : (q : ℕ) → q < 9 → get_or (with_zero ns w) q 0 ≡ get_or w q 0
     unfolding with_zero with_setupend
     zero_keep q h =
-        get_or_set_other (with_side sent 0 Out (zero_rx ns)) 9 q (cond (bit (word_at ns 9) 4) 1 0) 0 (λ (e : q ≡ 9). omega arith)
+        get_or-set_other (with_side sent 0 Out (zero_rx ns)) 9 q (cond (bit (word_at ns 9) 4) 1 0) 0 (λ (e : q ≡ 9). omega arith)
         ∙ keeps sent 0 Out (zero_rx ns) q (omega arith) ∙ keeps w 0 In (zero_tx ns) q (omega arith)
 
     both_whole : Whole w → length (with_side sent 0 Out (zero_rx ns)) ≡ 46

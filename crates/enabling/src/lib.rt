@@ -1,5 +1,8 @@
 // What the source keeps in its common_impl.rs, second part: an endpoint is enabled, in one direction.
 // Each function is lent the register file, takes how many stores stand in the lent list, and gives back how many stand there now.
+
+#![tactic(auto)]
+
 ghost use Rattle.std.specs.Prelude.{◌≡◌, ◌+◌, ◌*◌, ◌≤◌, ◌<◌, length};
 ghost use Rattle.store_rules.specs.Stores.{log};
 ghost use Rattle.common_rules.specs.Enable.{flushed_zero, enabled_zero, iso_written, waits, flush, flushed, sized, settled, enabled_other, enabled, ep_tx_enable, ep_rx_enable};

@@ -1,4 +1,7 @@
 // One endpoint (of the source's alloc_endpoint.rs, its fixed half): what is recorded of it, whether it may be given, and what it records then.
+
+#![tactic(auto)]
+
 ghost use Rattle.std.specs.Prelude.{◌≡◌};
 ghost use Rattle.board.specs.Table.{row_at};
 ghost use Rattle.board.specs.Boards.{rows};

@@ -5,7 +5,7 @@ use mathlib.Core.List.{List}
 use Prim.Native.Nat.{ℕ, ◌≤◌, ◌<◌}
 use native.Mathlib.Omega.{arith}
 use lib.ListN.{length, get_or, length-set}
-use lib.Seq.{get_or-set_same, get_or_set_other}
+use lib.Seq.{get_or-set_same, get_or-set_other}
 use Rattle.board.specs.declared.Row.{Row}
 use Rattle.endpoints.specs.declared.EndpointData.{EndpointData}
 use Rattle.endpoints.specs.declared.EndpointAllocError.{EndpointAllocError}
@@ -36,7 +36,7 @@ module _ (t : List Row) (es : List EndpointData) (q : Ask) (w : Wanted) where
     -- the other endpoints stay
     pub others_keep : (m : ℕ) → (m ≡ n → ⊥) → get_or (allocate t es q w).endpoints m blank ≡ get_or es m blank
     unfolding allocate given
-    others_keep m other = ap (λ (a : Answer). get_or (after es q a) m blank) done ∙ get_or_set_other es n m (granted (get_or es n blank) q) blank other
+    others_keep m other = ap (λ (a : Answer). get_or (after es q a) m blank) done ∙ get_or-set_other es n m (granted (get_or es n blank) q) blank other
 
     pub given_changes : length t ≤ length es → Granted (get_or es n blank) (get_or (allocate t es q w).endpoints n blank) q
     unfolding allocate given

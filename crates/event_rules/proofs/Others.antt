@@ -5,7 +5,7 @@ use mathlib.Core.Bool.{Bool, true, false, cond}
 use native.Mathlib.Omega.{arith}
 use lib.Dec.{eqb}
 use lib.ListN.{set, length-set}
-use lib.Seq.{get_or-set_same, get_or_set_other}
+use lib.Seq.{get_or-set_same, get_or-set_other}
 use Rattle.laws.specs.Words.{raised}
 use Rattle.board.specs.declared.Direction.{Direction}
 use Rattle.board.specs.declared.Direction.TheVariants.{Out, In}
@@ -34,7 +34,7 @@ ended : (o : Event) (r : File) → Whole r → file.setupend (happens o r) ≡ e
 unfolding file.setupend bus_raised with_intrusb missing
 ended (arrival f n) r six = one _ _ (arrival_keeps r f n 9 (omega arith) (λ e. omega arith) (λ e. omega arith))
 ended (collection f) r six = one _ _ (collection_keeps r f 9 (omega arith) (λ e. omega arith) (λ e. omega arith))
-ended (on_bus o) r six = one _ _ (get_or_set_other r 6 9 _ 0 (λ e. omega arith))
+ended (on_bus o) r six = one _ _ (get_or-set_other r 6 9 _ 0 (λ e. omega arith))
 ended setupend r six = setup_raised r six
 ended (miss f c) r six = keeps_setupend r f c (lapsed (side_at r f c))
 
@@ -45,23 +45,23 @@ others o r six = record { ended = ended o r six; number = λ i l h. number o r i
 pub usb_clears : (r : File) → Whole r
     → (intrusb (intrusb_cleared r) ≡ 0) × (intr_of (intrusb_cleared r) In ≡ intr_of r In) × (intr_of (intrusb_cleared r) Out ≡ intr_of r Out)
 unfolding intrusb_cleared with_intrusb intrusb intr_of
-usb_clears r six = (get_or-set_same r 6 0 0 (omega arith), get_or_set_other r 6 7 0 0 (λ e. omega arith), get_or_set_other r 6 8 0 0 (λ e. omega arith))
+usb_clears r six = (get_or-set_same r 6 0 0 (omega arith), get_or-set_other r 6 7 0 0 (λ e. omega arith), get_or-set_other r 6 8 0 0 (λ e. omega arith))
 
 pub tx_clears : (r : File) → Whole r
     → (intr_of (intr_cleared r In) In ≡ 0) × (intrusb (intr_cleared r In) ≡ intrusb r) × (intr_of (intr_cleared r In) Out ≡ intr_of r Out)
 unfolding intr_cleared with_intr intrusb intr_of
-tx_clears r six = (get_or-set_same r 7 0 0 (omega arith), get_or_set_other r 7 6 0 0 (λ e. omega arith), get_or_set_other r 7 8 0 0 (λ e. omega arith))
+tx_clears r six = (get_or-set_same r 7 0 0 (omega arith), get_or-set_other r 7 6 0 0 (λ e. omega arith), get_or-set_other r 7 8 0 0 (λ e. omega arith))
 
 pub rx_clears : (r : File) → Whole r
     → (intr_of (intr_cleared r Out) Out ≡ 0) × (intrusb (intr_cleared r Out) ≡ intrusb r) × (intr_of (intr_cleared r Out) In ≡ intr_of r In)
 unfolding intr_cleared with_intr intrusb intr_of
-rx_clears r six = (get_or-set_same r 8 0 0 (omega arith), get_or_set_other r 8 6 0 0 (λ e. omega arith), get_or_set_other r 8 7 0 0 (λ e. omega arith))
+rx_clears r six = (get_or-set_same r 8 0 0 (omega arith), get_or-set_other r 8 6 0 0 (λ e. omega arith), get_or-set_other r 8 7 0 0 (λ e. omega arith))
 
 -- and nothing else changes
 set_clears : (r : File) (i : ℕ) → Whole r → i < 46 → Clears i r (set r i 0)
 set_clears r i six h = record {
   clear = get_or-set_same r i 0 0 (omega arith);
-  others = λ j n. get_or_set_other r i j 0 0 n;
+  others = λ j n. get_or-set_other r i j 0 0 n;
   whole = length-set r i 0;
 }
 

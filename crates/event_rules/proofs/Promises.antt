@@ -7,7 +7,7 @@ use native.Mathlib.Decide.{ℕ_discrete}
 use borrow.Author.Tests.{ne_eqb}
 use lib.Dec.{eqb}
 use lib.ListN.{length, get_or, length-set}
-use lib.Seq.{get_or-set_same, get_or_set_other}
+use lib.Seq.{get_or-set_same, get_or-set_other}
 use Rattle.laws.specs.Words.{raised}
 use Rattle.board.specs.declared.Direction.{Direction}
 use Rattle.board.specs.declared.Direction.TheVariants.{Out, In}
@@ -30,8 +30,8 @@ quiet r In i e d = set_keeps r 7 (raised (intr_of r In) i) e d (omega arith)
 
 pub interrupt_keeps : (r : File) (c : Direction) (i q : ℕ) → (q ≡ 7 → ⊥) → (q ≡ 8 → ⊥) → get_or (interrupting r c i) q 0 ≡ get_or r q 0
 unfolding interrupting with_intr
-interrupt_keeps r Out i q m n = get_or_set_other r 8 q (raised (intr_of r Out) i) 0 n
-interrupt_keeps r In i q m n = get_or_set_other r 7 q (raised (intr_of r In) i) 0 m
+interrupt_keeps r Out i q m n = get_or-set_other r 8 q (raised (intr_of r Out) i) 0 n
+interrupt_keeps r In i q m n = get_or-set_other r 7 q (raised (intr_of r In) i) 0 m
 
 interrupt_length : (r : File) (c : Direction) (i : ℕ) → length (interrupting r c i) ≡ length r
 unfolding interrupting with_intr
@@ -46,11 +46,11 @@ interrupt_here r In i six = get_or-set_same r 7 (raised (intr_of r In) i) 0 (ome
 
 interrupt_in : (r : File) (i : ℕ) → intr_of (interrupting r In i) Out ≡ intr_of r Out
 unfolding interrupting with_intr intr_of
-interrupt_in r i = get_or_set_other r 7 8 (raised (intr_of r In) i) 0 (λ e. omega arith)
+interrupt_in r i = get_or-set_other r 7 8 (raised (intr_of r In) i) 0 (λ e. omega arith)
 
 interrupt_out : (r : File) (i : ℕ) → intr_of (interrupting r Out i) In ≡ intr_of r In
 unfolding interrupting with_intr intr_of
-interrupt_out r i = get_or_set_other r 8 7 (raised (intr_of r Out) i) 0 (λ e. omega arith)
+interrupt_out r i = get_or-set_other r 8 7 (raised (intr_of r Out) i) 0 (λ e. omega arith)
 
 -- a packet that waits, seen at any side
 wait_seen : (r : File) (f n e : ℕ) (d : Direction) → Whole r → f < 6
@@ -117,7 +117,7 @@ bus_seen o r e d = set_keeps r 6 (raised (intrusb r) (bus_bit o)) e d (omega ari
 
 bus_keeps : (o : BusEvent) (r : File) (q : ℕ) → (q ≡ 6 → ⊥) → get_or (bus_raised o r) q 0 ≡ get_or r q 0
 unfolding bus_raised with_intrusb
-bus_keeps o r q n = get_or_set_other r 6 q (raised (intrusb r) (bus_bit o)) 0 n
+bus_keeps o r q n = get_or-set_other r 6 q (raised (intrusb r) (bus_bit o)) 0 n
 
 bus_length : (o : BusEvent) (r : File) → length (bus_raised o r) ≡ length r
 unfolding bus_raised with_intrusb
@@ -135,7 +135,7 @@ bus_intr o r In = bus_keeps o r 7 (λ e. omega arith)
 -- SetupEnd raised touches its own number alone
 end_keeps : (r : File) (b : Bool) (q : ℕ) → q < 9 → get_or (with_setupend r b) q 0 ≡ get_or r q 0
 unfolding with_setupend
-end_keeps r b q h = get_or_set_other r 9 q (cond b 1 0) 0 (λ e. omega arith)
+end_keeps r b q h = get_or-set_other r 9 q (cond b 1 0) 0 (λ e. omega arith)
 
 end_length : (r : File) (b : Bool) → length (with_setupend r b) ≡ length r
 unfolding with_setupend
@@ -251,19 +251,19 @@ pub usb_rest : (r : File) → Kept r (intrusb_cleared r)
 unfolding intrusb_cleared with_intrusb index faddr
 usb_rest r = record {
   whole = length-set r 6 0;
-  selected = get_or_set_other r 6 0 0 0 (λ e. omega arith);
-  addressed = get_or_set_other r 6 1 0 0 (λ e. omega arith);
+  selected = get_or-set_other r 6 0 0 0 (λ e. omega arith);
+  addressed = get_or-set_other r 6 1 0 0 (λ e. omega arith);
 }
 
 pub word_rest : (r : File) (c : Direction) → Kept r (intr_cleared r c)
 unfolding intr_cleared with_intr index faddr
 word_rest r Out = record {
   whole = length-set r 8 0;
-  selected = get_or_set_other r 8 0 0 0 (λ e. omega arith);
-  addressed = get_or_set_other r 8 1 0 0 (λ e. omega arith);
+  selected = get_or-set_other r 8 0 0 0 (λ e. omega arith);
+  addressed = get_or-set_other r 8 1 0 0 (λ e. omega arith);
 }
 word_rest r In = record {
   whole = length-set r 7 0;
-  selected = get_or_set_other r 7 0 0 0 (λ e. omega arith);
-  addressed = get_or_set_other r 7 1 0 0 (λ e. omega arith);
+  selected = get_or-set_other r 7 0 0 0 (λ e. omega arith);
+  addressed = get_or-set_other r 7 1 0 0 (λ e. omega arith);
 }

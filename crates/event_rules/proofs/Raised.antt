@@ -8,7 +8,7 @@ use native.Mathlib.Omega.{arith}
 use lib.Bits.{bit_or, or_zero_l}
 use lib.Dec.{eqb}
 use lib.ListN.{get_or, set, length-set}
-use lib.Seq.{get_or_set_other}
+use lib.Seq.{get_or-set_other}
 use Rattle.laws.specs.Words.{bit, raised}
 use Rattle.laws.proofs.Words.{bit_or_lem}
 use Rattle.board.specs.declared.Direction.TheVariants.{Out, In}
@@ -34,11 +34,11 @@ read_usb r = refl
 
 pub read_tx : (r : File) → intr_of (intrusb_cleared r) In ≡ get_or r 7 0
 unfolding intr_of intrusb_cleared with_intrusb
-read_tx r = get_or_set_other r 6 7 0 0 (λ p. omega arith)
+read_tx r = get_or-set_other r 6 7 0 0 (λ p. omega arith)
 
 pub read_rx : (r : File) → intr_of (intr_cleared (intrusb_cleared r) In) Out ≡ get_or r 8 0
 unfolding intr_of intrusb_cleared with_intrusb intr_cleared with_intr
-read_rx r = get_or_set_other (set r 6 0) 7 8 0 0 (λ p. omega arith) ∙ get_or_set_other r 6 8 0 0 (λ p. omega arith)
+read_rx r = get_or-set_other (set r 6 0) 7 8 0 0 (λ p. omega arith) ∙ get_or-set_other r 6 8 0 0 (λ p. omega arith)
 
 pub read_all : (r : File) → intr_cleared (intr_cleared (intrusb_cleared r) In) Out ≡ calm r
 unfolding intrusb_cleared with_intrusb intr_cleared with_intr
@@ -51,7 +51,7 @@ raises_bits usb tx rx r six = record {
   bus = λ j. ap (λ (x : ℕ). bit x j) (ups_usb usb tx rx r ∙ more_here 6 usb r six (omega arith)) ∙ bit_or_lem (get_or r 6 0) usb j;
   transmit = λ j. ap (λ (x : ℕ). bit x j) (ups_tx usb tx rx r ∙ more_here 7 tx r six (omega arith)) ∙ bit_or_lem (get_or r 7 0) tx j;
   receive = λ j. ap (λ (x : ℕ). bit x j) (ups_rx usb tx rx r ∙ more_here 8 rx r six (omega arith)) ∙ bit_or_lem (get_or r 8 0) rx j;
-  others = λ i l m n. get_or_set_other (more 7 tx (more 6 usb r)) 8 i _ 0 n ∙ get_or_set_other (more 6 usb r) 7 i _ 0 m ∙ get_or_set_other r 6 i _ 0 l;
+  others = λ i l m n. get_or-set_other (more 7 tx (more 6 usb r)) 8 i _ 0 n ∙ get_or-set_other (more 6 usb r) 7 i _ 0 m ∙ get_or-set_other r 6 i _ 0 l;
   whole = simp length-set;
 }
 

@@ -1,4 +1,7 @@
 // What each host event does to the register file, and the interrupt registers, which clear when read.
+
+#![tactic(auto)]
+
 ghost use Rattle.std.specs.Prelude.{◌≡◌, ◌+◌, ◌≤◌, ◌<◌, length};
 ghost use Rattle.laws.specs.Lists.{pasted};
 ghost use Rattle.register_file.specs.Registers.{intrusb, intr_of, with_intr};

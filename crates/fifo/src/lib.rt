@@ -1,4 +1,7 @@
 // FIFO memory: one lent buffer. A packet goes to the part of it that begins at the endpoint's area.
+
+#![tactic(auto)]
+
 ghost use Rattle.std.specs.Prelude.{◌≡◌, ◌+◌, ◌≤◌, length, take, drop};
 ghost use Rattle.laws.specs.Lists.{pasted};
 

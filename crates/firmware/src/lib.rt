@@ -1,5 +1,8 @@
 // What an interrupt leads to, on a board around the driver: an example to begin from (docs/CALLS.md). Whatever arrives, and whatever is lent, a turn
 // ends and nothing in it fails.
+
+#![tactic(auto)]
+
 mod chip;
 
 use record::{Answered, Record};
@@ -28,7 +31,7 @@ pub fn turn(
 }
 
 // The record after a poll that was served, and whether to poll again.
-#[derive(Drop)]
+#[derive(Clone, Copy)]
 struct Served {
     record: Record,
     again: bool,

@@ -1,6 +1,9 @@
 // The host's events on the whole record, with document 01's refusals.
 // An event takes the record by value, any numbers and any lent memory, tests what document 01 refuses before anything changes, and gives back
 // its answer and the record. It stores nothing: no list is lent.
+
+#![tactic(auto)]
+
 ghost use Rattle.std.specs.Prelude.{◌≡◌, false, ◌<◌, length};
 ghost use Rattle.laws.specs.Lists.{pasted};
 ghost use Rattle.board.specs.declared.Direction.TheVariants.{Out};

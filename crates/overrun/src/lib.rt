@@ -1,5 +1,8 @@
 // What the source keeps in its common_impl.rs, third part: the repair of overruns.
 // Each function is lent the register file, takes how many stores stand in the lent list, and gives back how many stand there now.
+
+#![tactic(auto)]
+
 ghost use Rattle.std.specs.Prelude.{◌≡◌, ◌+◌, ◌*◌, ◌≤◌, length};
 ghost use Rattle.store_rules.specs.Stores.{log};
 ghost use Rattle.common_rules.specs.Overrun.{under_run_cleared, over_run_cleared, missed_at, missed_to, selected_below, repaired_below, check_overrun};

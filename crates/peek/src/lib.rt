@@ -1,4 +1,7 @@
 // What `write` and `read` share: whether enough is lent, and the two endings that both have.
+
+#![tactic(auto)]
+
 ghost use Rattle.std.specs.Prelude.{◌≡◌, ◌+◌, ◌*◌, ◌≤◌, length};
 ghost use Rattle.store_rules.specs.Stores.{log};
 ghost use Rattle.transfer_rules.specs.Peek.{short_in, after_of, blocked, ended};

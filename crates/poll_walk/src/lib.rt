@@ -1,4 +1,7 @@
 // The walk of `poll` of the source over the receive flags, its `BitIter` as a loop over the lowest set bit.
+
+#![tactic(auto)]
+
 ghost use Rattle.std.specs.Prelude.{◌≡◌, cond, ◌+◌, ◌*◌, ◌≤◌, ◌<◌, length};
 ghost use Rattle.laws.specs.Words.{clear, Lowest};
 ghost use Rattle.store_rules.specs.Stores.{log};

@@ -1,4 +1,7 @@
 // What `poll` of the source does for endpoint 0: the packet that waits there, by the control state, and the Accepted step.
+
+#![tactic(auto)]
+
 ghost use Rattle.std.specs.Prelude.{◌≡◌, true, false, ◌+◌, ◌*◌, ◌≤◌, ◌<◌, length};
 ghost use Rattle.store_rules.specs.Stores.{log};
 ghost use Rattle.round_rules.specs.Zero.{round_of, sent_by, setup_taken, restarted, cut_short, received_by, zero_served, endpoint_zero, put_back, accept_step};

@@ -1,12 +1,15 @@
 // The whole record: registers, endpoints, control state and interrupt flags. It takes the place of the source's `UsbdBus` and of its
 // statics, and goes in and out of every call by value. Types (here), what every call tests first (specs/), laws (proofs/). No function:
 // record_ops has them.
+
+#![tactic(auto)]
+
 use control_state::ControlState;
 use endpoints::EndpointData;
 use register_file::Regs;
 
 // The source's atomics IRQ_RESET, IRQ_SUSPEND, IRQ_RESUME, IRQ_EP0, IRQ_EP_TX and IRQ_EP_RX.
-#[derive(Drop)]
+#[derive(Clone, Copy)]
 pub struct Flags {
     pub reset: bool,
     pub suspend: bool,
@@ -16,7 +19,7 @@ pub struct Flags {
     pub ep_rx: u16,
 }
 
-#[derive(Drop)]
+#[derive(Clone, Copy)]
 pub struct Record {
     pub regs: Regs,
     pub endpoints: [EndpointData; 6],
@@ -25,7 +28,7 @@ pub struct Record {
 }
 
 // Why a call is refused: document 01's replies 6 to 17, and document 02's from 18 on. (Replies 1 to 5 are alloc_endpoint's own.)
-#[derive(Drop)]
+#[derive(Clone, Copy)]
 pub enum Refusal {
     // 6: write, and the last packet is not collected; read, and none waits
     WouldBlock,
@@ -54,7 +57,7 @@ pub enum Refusal {
 }
 
 // The answer of a call or event that has no value.
-#[derive(Drop)]
+#[derive(Clone, Copy)]
 pub enum Reply {
     Done,
     Refused(Refusal),
@@ -62,14 +65,14 @@ pub enum Reply {
 
 // What `on_interrupt` and the host's events but collection give back: no value, and no list is lent. The record stands first: so it is copied in one
 // go (bench/RESULTS.md).
-#[derive(Drop)]
+#[derive(Clone, Copy)]
 pub struct Answered {
     pub record: Record,
     pub answer: Reply,
 }
 
 // What every call tests first.
-#[derive(Drop)]
+#[derive(Clone, Copy)]
 pub enum Admission {
     Clear,
     Refused(Refusal),

@@ -1,4 +1,7 @@
 // The functions of the record: the fresh one, where each endpoint's area lies, how much must be lent, and what every call tests first.
+
+#![tactic(auto)]
+
 ghost use Rattle.std.specs.Prelude.{◌≡◌, ◌+◌, ◌≤◌, ◌<◌};
 ghost use Rattle.record.specs.Record.{fresh_record, area_in, need_in, flags_sound, passes, refusal_number, reply_number, admission_by, endpoints_in};
 

@@ -7,7 +7,7 @@ use mathlib.Core.List.{List}
 use native.Mathlib.Omega.{arith}
 use lib.Dec.{eqb}
 use lib.ListN.{length, get_or, length-set}
-use lib.Seq.{get_or-set_same, get_or_set_other}
+use lib.Seq.{get_or-set_same, get_or-set_other}
 use Rattle.board.specs.declared.Direction.{Direction}
 use Rattle.board.specs.declared.Direction.TheVariants.{Out, In}
 use Rattle.csr.specs.declared.Csr0l.{Csr0l}
@@ -65,7 +65,7 @@ module _ (w : Csr0l) (r : File) (six : Whole r) where
 pub zero_keeps : (w : Csr0l) (r : File) (q : ℕ) → q < 9 → get_or (csr0l_stored w r) q 0 ≡ get_or r q 0
 unfolding csr0l_stored with_setupend
 zero_keeps w r q h =
-    get_or_set_other (with_side (with_side r 0 In (zero_tx_stored w (side_at r 0 In))) 0 Out (dropped w.serviced_rx_pkt_rdy (side_at r 0 Out))) 9 q (cond (setupend r && not w.serviced_setup_end) 1 0) 0 (λ e. omega arith)
+    get_or-set_other (with_side (with_side r 0 In (zero_tx_stored w (side_at r 0 In))) 0 Out (dropped w.serviced_rx_pkt_rdy (side_at r 0 Out))) 9 q (cond (setupend r && not w.serviced_setup_end) 1 0) 0 (λ e. omega arith)
     ∙ keeps (with_side r 0 In (zero_tx_stored w (side_at r 0 In))) 0 Out (dropped w.serviced_rx_pkt_rdy (side_at r 0 Out)) q (omega arith) ∙ keeps r 0 In (zero_tx_stored w (side_at r 0 In)) q (omega arith)
 
 pub zero_length : (w : Csr0l) (r : File) → length (csr0l_stored w r) ≡ length r

@@ -8,7 +8,7 @@ use mathlib.Core.List.{List}
 use native.Mathlib.Omega.{arith}
 use lib.Dec.{eqb, ltb, leb}
 use lib.ListN.{get_or, set}
-use lib.Seq.{get_or_set_other, set_comm}
+use lib.Seq.{get_or-set_other, set_comm}
 use Rattle.board.specs.declared.Direction.{Direction}
 use Rattle.board.specs.declared.Direction.TheVariants.{Out, In}
 use Rattle.board.specs.Table.{place}
@@ -85,20 +85,20 @@ Apart = Steady alone
 
 pub index_unseen : Unseen index
 unfolding index
-index_unseen = record { same = λ q v at w. get_or_set_other w q 0 v 0 (λ e. omega (arith, at.low)) }
+index_unseen = record { same = λ q v at w. get_or-set_other w q 0 v 0 (λ e. omega (arith, at.low)) }
 
 faddr_unseen : Unseen faddr
 unfolding faddr
-faddr_unseen = record { same = λ q v at w. get_or_set_other w q 1 v 0 (λ e. omega (arith, at.low)) }
+faddr_unseen = record { same = λ q v at w. get_or-set_other w q 1 v 0 (λ e. omega (arith, at.low)) }
 
 pub enabled_unseen : (d : Direction) → Unseen (enabled_of d)
 unfolding enabled_of
-enabled_unseen Out = record { same = λ q v at w. get_or_set_other w q 5 v 0 (λ e. omega (arith, at.low)) }
-enabled_unseen In = record { same = λ q v at w. get_or_set_other w q 4 v 0 (λ e. omega (arith, at.low)) }
+enabled_unseen Out = record { same = λ q v at w. get_or-set_other w q 5 v 0 (λ e. omega (arith, at.low)) }
+enabled_unseen In = record { same = λ q v at w. get_or-set_other w q 4 v 0 (λ e. omega (arith, at.low)) }
 
 setupend_unseen : Unseen setupend
 unfolding setupend
-setupend_unseen = record { same = λ q v at w. ap (λ (n : ℕ). eqb n 1) (get_or_set_other w q 9 v 0 (λ e. omega (arith, at.high))) }
+setupend_unseen = record { same = λ q v at w. ap (λ (n : ℕ). eqb n 1) (get_or-set_other w q 9 v 0 (λ e. omega (arith, at.high))) }
 
 pub side_unseen : (e : ℕ) (d : Direction) → Unseen (λ w. side_at w e d)
 side_unseen e d = record { same = λ q v at w. set_keeps w q v e d (omega (arith, at.high)) }
@@ -128,7 +128,7 @@ words_unseen : (n : ℕ) → Unseen (λ w. words_below w n)
 unfolding words_below
 words_unseen zero = record { same = λ q v at w. refl }
 words_unseen (suc n) = record {
-  same = λ q v at w. ap₂ (λ (a : Bool) (x : ℕ). a also ltb x 32) ((words_unseen n).same q v at w) (get_or_set_other w q (10 + n) v 0 (λ e. omega (arith, at.high)));
+  same = λ q v at w. ap₂ (λ (a : Bool) (x : ℕ). a also ltb x 32) ((words_unseen n).same q v at w) (get_or-set_other w q (10 + n) v 0 (λ e. omega (arith, at.high)));
 }
 
 in_unseen : (i : ℕ) → Unseen (λ w. side_in w i)
@@ -137,7 +137,7 @@ in_unseen i = record { same = same }
   where
     same : (q v : ℕ) → PendingAt q → (w : File) → side_in (set w q v) i ≡ side_in w i
     same q v at w =
-        let there : (p : ℕ) → 10 ≤ p → get_or (set w q v) p 0 ≡ get_or w p 0 = λ p h. get_or_set_other w q p v 0 (λ e. omega (arith, at.high)) in
+        let there : (p : ℕ) → 10 ≤ p → get_or (set w q v) p 0 ≡ get_or w p 0 = λ p h. get_or-set_other w q p v 0 (λ e. omega (arith, at.high)) in
         λ t. side_of (there (10 + i) (omega arith) t) (there (34 + i) (omega arith) t) (there (22 + i) (omega arith) t)
 
 sides_unseen : (sizes : List ℕ) (n : ℕ) → Unseen (λ w. sides_below sizes w n)
@@ -151,7 +151,7 @@ pub sound_unseen : (sizes : List ℕ) (count : ℕ) → Unseen (regs_sound sizes
 unfolding regs_sound
 sound_unseen sizes count = record {
   same = λ q v at w. λ i. ltb (index_unseen.same q v at w i) count also leb (faddr_unseen.same q v at w i) 127
-      also leb (get_or_set_other w q 9 v 0 (λ e. omega (arith, at.high)) i) 1 also (words_unseen 12).same q v at w i also (sides_unseen sizes 12).same q v at w i;
+      also leb (get_or-set_other w q 9 v 0 (λ e. omega (arith, at.high)) i) 1 also (words_unseen 12).same q v at w i also (sides_unseen sizes 12).same q v at w i;
 }
 
 -- what is done ----------------------------------------------------------------------------------------------------------------------
@@ -160,7 +160,7 @@ sound_unseen sizes count = record {
 set_apart : (i x : ℕ) → ((q : ℕ) → PendingAt q → q ≡ i → ⊥) → Apart (λ w. set w i x)
 set_apart i x away = record {
   sets = λ q v at w. set_comm w q i v x (away q at);
-  reads = λ q at w. get_or_set_other w i q x 0 (away q at);
+  reads = λ q at w. get_or-set_other w i q x 0 (away q at);
 }
 
 before_apart : (i x : ℕ) → i < 6 → Apart (λ w. set w i x)

@@ -8,7 +8,7 @@ use native.Mathlib.Nat.{lt_of_not-le}
 use native.Mathlib.Omega.{arith}
 use lib.Bits.{bit_or, or_zero_l, or_zero_r}
 use lib.ListN.{length, get_or, set, length-set, get_or-eq_default}
-use lib.Seq.{get_or-set_same, get_or_set_other, set-set, set_comm, set-get_or, set_out}
+use lib.Seq.{get_or-set_same, get_or-set_other, set-set, set_comm, set-get_or, set_out}
 use Rattle.laws.proofs.Words.{or_assoc}
 use Rattle.register_file.specs.Registers.{File, Whole}
 use Rattle.register_file.proofs.Pending.{at_bus, at_tx, at_rx, Unseen, Apart}
@@ -33,8 +33,8 @@ more_again q a b w = set-set w q _ _ ∙ go (dec_le (length w) q)
 -- in two numbers, in either order
 more_apart : (p q a b : ℕ) (w : File) → (p ≡ q → ⊥) → more p a (more q b w) ≡ more q b (more p a w)
 more_apart p q a b w n =
-    ap (λ (x : ℕ). set (more q b w) p (bit_or x a)) (get_or_set_other w q p _ 0 n) ∙ set_comm w q p _ _ (λ e. n (sym e))
-    ∙ ap (λ (x : ℕ). set (more p a w) q (bit_or x b)) (sym (get_or_set_other w p q _ 0 (λ e. n (sym e))))
+    ap (λ (x : ℕ). set (more q b w) p (bit_or x a)) (get_or-set_other w q p _ 0 n) ∙ set_comm w q p _ _ (λ e. n (sym e))
+    ∙ ap (λ (x : ℕ). set (more p a w) q (bit_or x b)) (sym (get_or-set_other w p q _ 0 (λ e. n (sym e))))
 
 -- What is read of it: past the end of the list nothing; in a whole file what was there and the bits.
 past : (q v : ℕ) (w : File) → length w ≤ q → get_or (set w q v) q 0 ≡ 0
@@ -69,17 +69,17 @@ ups_again a b c d e f w =
 
 module _ (a b c : ℕ) (w : File) where
   pub ups_usb : get_or (ups a b c w) 6 0 ≡ get_or (more 6 a w) 6 0
-  ups_usb = get_or_set_other (more 7 b (more 6 a w)) 8 6 _ 0 (λ p. omega arith) ∙ get_or_set_other (more 6 a w) 7 6 _ 0 (λ p. omega arith)
+  ups_usb = get_or-set_other (more 7 b (more 6 a w)) 8 6 _ 0 (λ p. omega arith) ∙ get_or-set_other (more 6 a w) 7 6 _ 0 (λ p. omega arith)
 
   pub ups_tx : get_or (ups a b c w) 7 0 ≡ get_or (more 7 b w) 7 0
   ups_tx =
-      get_or_set_other (more 7 b (more 6 a w)) 8 7 _ 0 (λ p. omega arith) ∙ ap (λ (x : File). get_or x 7 0) (more_apart 7 6 b a w (λ p. omega arith))
-      ∙ get_or_set_other (more 7 b w) 6 7 _ 0 (λ p. omega arith)
+      get_or-set_other (more 7 b (more 6 a w)) 8 7 _ 0 (λ p. omega arith) ∙ ap (λ (x : File). get_or x 7 0) (more_apart 7 6 b a w (λ p. omega arith))
+      ∙ get_or-set_other (more 7 b w) 6 7 _ 0 (λ p. omega arith)
 
   pub ups_rx : get_or (ups a b c w) 8 0 ≡ get_or (more 8 c w) 8 0
   ups_rx =
-      ap (λ (x : File). get_or x 8 0) (more_apart 8 7 c b (more 6 a w) (λ p. omega arith)) ∙ get_or_set_other (more 8 c (more 6 a w)) 7 8 _ 0 (λ p. omega arith)
-      ∙ ap (λ (x : File). get_or x 8 0) (more_apart 8 6 c a w (λ p. omega arith)) ∙ get_or_set_other (more 8 c w) 6 8 _ 0 (λ p. omega arith)
+      ap (λ (x : File). get_or x 8 0) (more_apart 8 7 c b (more 6 a w) (λ p. omega arith)) ∙ get_or-set_other (more 8 c (more 6 a w)) 7 8 _ 0 (λ p. omega arith)
+      ∙ ap (λ (x : File). get_or x 8 0) (more_apart 8 6 c a w (λ p. omega arith)) ∙ get_or-set_other (more 8 c w) 6 8 _ 0 (λ p. omega arith)
 
 -- the three set, and set again
 abbrev three : ℕ → ℕ → ℕ → File → File
@@ -106,7 +106,7 @@ pub calm_length : (w : File) → length (calm w) ≡ length w
 calm_length w = simp length-set
 
 pub calm_other : (i : ℕ) (w : File) → (i ≡ 6 → ⊥) → (i ≡ 7 → ⊥) → (i ≡ 8 → ⊥) → get_or (calm w) i 0 ≡ get_or w i 0
-calm_other i w l m n = get_or_set_other (set (set w 6 0) 7 0) 8 i 0 0 n ∙ get_or_set_other (set w 6 0) 7 i 0 0 m ∙ get_or_set_other w 6 i 0 0 l
+calm_other i w l m n = get_or-set_other (set (set w 6 0) 7 0) 8 i 0 0 n ∙ get_or-set_other (set w 6 0) 7 i 0 0 m ∙ get_or-set_other w 6 i 0 0 l
 
 -- nothing is read of them then
 zero_read : (q : ℕ) (w : File) → get_or (set w q 0) q 0 ≡ 0
@@ -117,10 +117,10 @@ zero_read q w = go (dec_le (length w) q)
     go (no h) = get_or-set_same w q 0 0 (lt_of_not-le h)
 
 pub calm_usb : (w : File) → get_or (calm w) 6 0 ≡ 0
-calm_usb w = get_or_set_other (set (set w 6 0) 7 0) 8 6 0 0 (λ p. omega arith) ∙ get_or_set_other (set w 6 0) 7 6 0 0 (λ p. omega arith) ∙ zero_read 6 w
+calm_usb w = get_or-set_other (set (set w 6 0) 7 0) 8 6 0 0 (λ p. omega arith) ∙ get_or-set_other (set w 6 0) 7 6 0 0 (λ p. omega arith) ∙ zero_read 6 w
 
 pub calm_tx : (w : File) → get_or (calm w) 7 0 ≡ 0
-calm_tx w = get_or_set_other (set (set w 6 0) 7 0) 8 7 0 0 (λ p. omega arith) ∙ zero_read 7 (set w 6 0)
+calm_tx w = get_or-set_other (set (set w 6 0) 7 0) 8 7 0 0 (λ p. omega arith) ∙ zero_read 7 (set w 6 0)
 
 pub calm_rx : (w : File) → get_or (calm w) 8 0 ≡ 0
 calm_rx w = zero_read 8 (set (set w 6 0) 7 0)

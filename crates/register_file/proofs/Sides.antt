@@ -10,7 +10,7 @@ use native.Mathlib.Decide.{ℕ_discrete, dec_le}
 use native.Mathlib.Nat.{lt_of_not-le}
 use native.Mathlib.Omega.{arith}
 use lib.ListN.{length, get_or, set, length-set, replicate}
-use lib.Seq.{get_or-set_same, get_or_set_other}
+use lib.Seq.{get_or-set_same, get_or-set_other}
 use Rattle.laws.specs.Words.{bit}
 use Rattle.board.specs.Table.{place}
 use Rattle.board.specs.declared.Board.{Board}
@@ -42,7 +42,7 @@ flipped e In In n p = n refl
 -- a place other than three that are set
 beside : (w : File) (a b c q x y z : ℕ) → (q ≡ a → ⊥) → (q ≡ b → ⊥) → (q ≡ c → ⊥) → get_or (set (set (set w a x) b y) c z) q 0 ≡ get_or w q 0
 beside w a b c q x y z na nb nc =
-    get_or_set_other (set (set w a x) b y) c q z 0 nc ∙ get_or_set_other (set w a x) b q y 0 nb ∙ get_or_set_other w a q x 0 na
+    get_or-set_other (set (set w a x) b y) c q z 0 nc ∙ get_or-set_other (set w a x) b q y 0 nb ∙ get_or-set_other w a q x 0 na
 
 module _ (w : File) (i : ℕ) (s : Side) where
   pub length_in : length (with_side_in w i s) ≡ length w
@@ -58,11 +58,11 @@ module _ (w : File) (i : ℕ) (s : Side) where
   unfolding side_in with_side_in
   in_same k h =
       let c : get_or (set (set (set w (10 + i) (side_word s)) (34 + i) s.maxp) (22 + i) s.len) (10 + i) 0 ≡ side_word s =
-      get_or_set_other (set (set w (10 + i) (side_word s)) (34 + i) s.maxp) (22 + i) (10 + i) s.len 0 (λ e. omega arith)
-      ∙ get_or_set_other (set w (10 + i) (side_word s)) (34 + i) (10 + i) s.maxp 0 (λ e. omega arith)
+      get_or-set_other (set (set w (10 + i) (side_word s)) (34 + i) s.maxp) (22 + i) (10 + i) s.len 0 (λ e. omega arith)
+      ∙ get_or-set_other (set w (10 + i) (side_word s)) (34 + i) (10 + i) s.maxp 0 (λ e. omega arith)
       ∙ get_or-set_same w (10 + i) (side_word s) 0 (omega arith) in
       let m : get_or (set (set (set w (10 + i) (side_word s)) (34 + i) s.maxp) (22 + i) s.len) (34 + i) 0 ≡ s.maxp =
-      get_or_set_other (set (set w (10 + i) (side_word s)) (34 + i) s.maxp) (22 + i) (34 + i) s.len 0 (λ e. omega arith)
+      get_or-set_other (set (set w (10 + i) (side_word s)) (34 + i) s.maxp) (22 + i) (34 + i) s.len 0 (λ e. omega arith)
       ∙ get_or-set_same (set w (10 + i) (side_word s)) (34 + i) s.maxp 0 (simp length-set (omega arith)) in
       let n : get_or (set (set (set w (10 + i) (side_word s)) (34 + i) s.maxp) (22 + i) s.len) (22 + i) 0 ≡ s.len =
       get_or-set_same (set (set w (10 + i) (side_word s)) (34 + i) s.maxp) (22 + i) s.len 0 (simp length-set (omega arith)) in
@@ -86,8 +86,8 @@ module _ (w : File) (i : ℕ) (s : Side) where
     where
       go : Dec (j ≡ i) → (get_or (set (set (set w (10 + i) (side_word s)) (34 + i) s.maxp) (22 + i) s.len) (10 + j) 0 ≡ side_word s) ⊎ (get_or (set (set (set w (10 + i) (side_word s)) (34 + i) s.maxp) (22 + i) s.len) (10 + j) 0 ≡ get_or w (10 + j) 0)
       go (yes p) =
-          inl (get_or_set_other (set (set w (10 + i) (side_word s)) (34 + i) s.maxp) (22 + i) (10 + j) s.len 0 (λ e. omega arith)
-          ∙ get_or_set_other (set w (10 + i) (side_word s)) (34 + i) (10 + j) s.maxp 0 (λ e. omega arith)
+          inl (get_or-set_other (set (set w (10 + i) (side_word s)) (34 + i) s.maxp) (22 + i) (10 + j) s.len 0 (λ e. omega arith)
+          ∙ get_or-set_other (set w (10 + i) (side_word s)) (34 + i) (10 + j) s.maxp 0 (λ e. omega arith)
           ∙ rw p (get_or-set_same w (10 + i) (side_word s) 0 (omega arith)))
       go (no n) =
           inr (beside w (10 + i) (34 + i) (22 + i) (10 + j) (side_word s) s.maxp s.len (λ e. n (omega arith)) (λ e. omega arith) (λ e. omega arith))
@@ -175,7 +175,7 @@ module _ (w : File) (e : ℕ) (d : Direction) (s : Side) where
 pub set_keeps : (w : File) (q v e : ℕ) (d : Direction) → q < 10 → side_at (set w q v) e d ≡ side_at w e d
 unfolding side_at side_in
 set_keeps w q v e d h =
-    let at : (p : ℕ) → 10 ≤ p → get_or (set w q v) p 0 ≡ get_or w p 0 = λ p l. get_or_set_other w q p v 0 (λ e. omega arith) in
+    let at : (p : ℕ) → 10 ≤ p → get_or (set w q v) p 0 ≡ get_or w p 0 = λ p l. get_or-set_other w q p v 0 (λ e. omega arith) in
     λ t. cond (ltb e 6) (side_of (at (10 + place e d) (omega arith) t) (at (34 + place e d) (omega arith) t) (at (22 + place e d) (omega arith) t)) no_side
 
 -- a side that is changed by f, seen at any endpoint and direction

@@ -11,7 +11,7 @@ use native.Mathlib.Omega.{arith}
 use borrow.Author.Tests.{leb-true, le-leb, ltb-true, lt-ltb}
 use lib.Dec.{ltb, lit<, lit≤}
 use lib.ListN.{get_or, set}
-use lib.Seq.{get_or-set_same, get_or_set_other}
+use lib.Seq.{get_or-set_same, get_or-set_other}
 use Rattle.laws.specs.Tests.{◌also◌}
 use Rattle.laws.proofs.Tests.{also_left, also_right, also_both}
 use Rattle.board.specs.Table.{place}
@@ -148,15 +148,15 @@ clean_side w e d s six k = record {
 
 pub clean_set : (w : File) (q v : ℕ) → q < 9 → Clean w → Clean (set w q v)
 clean_set w q v h k = record {
-  ended = rw (get_or_set_other w q 9 v 0 (λ e. omega arith)) k.ended;
-  bits = λ (i : ℕ) (l : i < 12). rw (get_or_set_other w q (10 + i) v 0 (λ e. omega arith)) (k.bits i l);
+  ended = rw (get_or-set_other w q 9 v 0 (λ e. omega arith)) k.ended;
+  bits = λ (i : ℕ) (l : i < 12). rw (get_or-set_other w q (10 + i) v 0 (λ e. omega arith)) (k.bits i l);
 }
 
 pub clean_setupend : (w : File) (b : Bool) → Whole w → Clean w → Clean (with_setupend w b)
 unfolding with_setupend
 clean_setupend w b six k = record {
   ended = rw (get_or-set_same w 9 (cond b 1 0) 0 (omega arith)) (one b);
-  bits = λ (i : ℕ) (l : i < 12). rw (get_or_set_other w 9 (10 + i) (cond b 1 0) 0 (λ e. omega arith)) (k.bits i l);
+  bits = λ (i : ℕ) (l : i < 12). rw (get_or-set_other w 9 (10 + i) (cond b 1 0) 0 (λ e. omega arith)) (k.bits i l);
 }
   where
     one : (b : Bool) → cond b 1 0 ≤ 1

@@ -2,6 +2,9 @@
 //
 // A public call has the array by value, in its record; below it every function is lent the array, and changes it in place.
 // The driver above knows this crate by its contracts and its exported laws alone.
+
+#![tactic(auto)]
+
 ghost use Rattle.std.specs.Prelude.{◌≡◌, ◌<◌};
 ghost use Rattle.register_file.specs.Registers.{fresh_regs, side_word, side_in, with_side_in, side_at, with_side};
 ghost use Rattle.register_file.specs.Control.{csr0l_read, txcsrl_read, rxcsrl_read, csr0l_stored, csr0h_flushed};

@@ -1,9 +1,12 @@
 // What an entry of a trace does and what is reported of it, a step, the whole report, as definitions (specs/); and what they come to, as laws
 // (proofs/). No function: trace_answers, trace_act and trace_step have them.
+
+#![tactic(auto)]
+
 use record::Record;
 
 // The record, how many stores stand in the list, and how long the line is.
-#[derive(Drop)]
+#[derive(Clone, Copy)]
 pub struct Acted {
     pub record: Record,
     pub stores: usize,
@@ -11,7 +14,7 @@ pub struct Acted {
 }
 
 // What stood at the place: an entry, whose line has so many bytes and after which the next one begins, the end, or something bad.
-#[derive(Drop)]
+#[derive(Clone, Copy)]
 pub enum Came {
     Line(usize, usize),
     End,
@@ -19,7 +22,7 @@ pub enum Came {
 }
 
 // `stores` is how many stores the entry's call put into the list.
-#[derive(Drop)]
+#[derive(Clone, Copy)]
 pub struct Stepped {
     pub record: Record,
     pub came: Came,

@@ -3,6 +3,9 @@
 // read; `make` writes it to stdin, and has the register model of oracle/, written apart from ours, write stdout.
 //
 // The script begins with 768 bytes that count up, from which packets are taken; then a step is five bytes.
+
+#![tactic(auto)]
+
 ghost use Rattle.std.specs.Prelude.{◌+◌, ◌≤◌, ◌<◌, length};
 
 use board::{Board, Direction};

@@ -2,6 +2,9 @@
 // with many, each behind its length in four bytes, low byte first; `=NAME` is such a file, and its reports are the detailed ones.
 // The file `cases` has the single traces and their reports, to be read, and says where they come from. The others are generated, and
 // their reports are the original's own.
+
+#![tactic(auto)]
+
 ghost use Rattle.std.specs.Prelude.{◌+◌, ◌≤◌, ◌<◌, length};
 
 const PLUS: u8 = 43;

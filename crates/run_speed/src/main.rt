@@ -2,6 +2,9 @@
 // and the endpoint that packets go to, a digit too, so that no compiler knows it beforehand. Behind them stands the record that the call begins
 // from: its 96 numbers as a detailed report prints them, each in four bytes, low byte first. Everything else is the same in both runs, and
 // one call is what they differ by. What the last call listed and left is printed; bench/ holds it to what the original listed.
+
+#![tactic(auto)]
+
 ghost use Rattle.std.specs.Prelude.{◌≤◌};
 
 use board::Direction;

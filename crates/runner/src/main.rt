@@ -4,7 +4,10 @@
 //     given    the trace begins from a record and FIFO memory that stand before it: the record's 96 numbers as a detailed report prints
 //              them, each in four bytes, low byte first, and the 1,664 bytes
 // Any other word: one line on standard error, and nothing on standard output.
-#[derive(Drop)]
+
+#![tactic(auto)]
+
+#[derive(Clone, Copy)]
 struct Asked {
     detail: bool,
     given: bool,

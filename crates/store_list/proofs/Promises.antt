@@ -5,7 +5,7 @@ use mathlib.Core.Path.{◌≡◌, refl, ◌∙◌}
 use native.Mathlib.Omega.{arith}
 use lib.Dec.{lit<}
 use lib.ListN.{length, length-set, get_or, set, drop}
-use lib.Seq.{get_or-set_same, get_or_set_other}
+use lib.Seq.{get_or-set_same, get_or-set_other}
 use mathlib.Core.List.{List, [], ◌∷◌}
 use mathlib.Core.Logic.{◌⊎◌, inl, inr}
 use Rattle.store_list.specs.Stores.{listed}
@@ -18,9 +18,9 @@ far i n k b (inr h) p = omega arith
 pub listed_other : (l : List ℕ) (n a e v i z : ℕ) → (i < n * 3) ⊎ (n * 3 + 3 ≤ i) → get_or (listed l n a e v) i z ≡ get_or l i z
 unfolding listed
 listed_other l n a e v i z h =
-    get_or_set_other (set (set l (n * 3) a) (n * 3 + 1) e) (n * 3 + 2) i v z (far i n 2 (lit< tt) h)
-    ∙ get_or_set_other (set l (n * 3) a) (n * 3 + 1) i e z (far i n 1 (lit< tt) h)
-    ∙ get_or_set_other l (n * 3) i a z (λ (p : i ≡ n * 3). far i n 0 (lit< tt) h (omega arith))
+    get_or-set_other (set (set l (n * 3) a) (n * 3 + 1) e) (n * 3 + 2) i v z (far i n 2 (lit< tt) h)
+    ∙ get_or-set_other (set l (n * 3) a) (n * 3 + 1) i e z (far i n 1 (lit< tt) h)
+    ∙ get_or-set_other l (n * 3) i a z (λ (p : i ≡ n * 3). far i n 0 (lit< tt) h (omega arith))
 
 -- a store stands at its place, where the list has room for it
 module _ (l : List ℕ) (n a e v : ℕ) where
@@ -32,8 +32,8 @@ module _ (l : List ℕ) (n a e v : ℕ) where
     pub listed_register : get_or (listed l n a e v) (n * 3) 0 ≡ a
     unfolding listed
     listed_register =
-        get_or_set_other (set (set l (n * 3) a) (n * 3 + 1) e) (n * 3 + 2) (n * 3) v 0 (λ p. omega arith)
-        ∙ get_or_set_other (set l (n * 3) a) (n * 3 + 1) (n * 3) e 0 (λ p. omega arith)
+        get_or-set_other (set (set l (n * 3) a) (n * 3 + 1) e) (n * 3 + 2) (n * 3) v 0 (λ p. omega arith)
+        ∙ get_or-set_other (set l (n * 3) a) (n * 3 + 1) (n * 3) e 0 (λ p. omega arith)
         ∙ get_or-set_same l (n * 3) a 0 (omega arith)
 
     pub listed_value : get_or (listed l n a e v) (n * 3 + 2) 0 ≡ v

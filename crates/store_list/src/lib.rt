@@ -1,4 +1,7 @@
 // The lent list of stores: three numbers a store, and document 01's numbers of the registers.
+
+#![tactic(auto)]
+
 ghost use Rattle.std.specs.Prelude.{◌≡◌, ◌+◌, ◌*◌, ◌≤◌, length};
 ghost use Rattle.store_list.specs.Stores.{listed, csrh, maxp, intre};
 

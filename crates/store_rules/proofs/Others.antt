@@ -6,7 +6,7 @@ use mathlib.Core.Bool.{Bool, true, false, not, cond}
 use native.Mathlib.Omega.{arith}
 use lib.Dec.{eqb}
 use lib.ListN.{set}
-use lib.Seq.{get_or_set_other}
+use lib.Seq.{get_or-set_other}
 use Rattle.board.specs.declared.Direction.TheVariants.{Out, In}
 use Rattle.register_file.specs.Registers as file
 use Rattle.register_file.specs.Registers.{File, Whole, with_faddr, with_power, with_index, with_intrusbe, with_enabled, chosen, with_chosen}
@@ -25,7 +25,7 @@ use Rattle.store_rules.proofs.Own.{own_ends, own_clean}
 
 set_ends : (w : File) (q v : ℕ) → q < 9 → file.setupend (set w q v) ≡ file.setupend w
 unfolding file.setupend
-set_ends w q v h = ap (λ (n : ℕ). eqb n 1) (get_or_set_other w q 9 v 0 (λ e. omega arith))
+set_ends w q v h = ap (λ (n : ℕ). eqb n 1) (get_or-set_other w q 9 v 0 (λ e. omega arith))
 
 packet_ends : (n : ℕ) (g : Log) → file.setupend (write_packet n g).regs ≡ file.setupend g.regs
 unfolding write_packet listing

@@ -8,7 +8,7 @@ use borrow.Author.Tests.{eq-eqb, ne_eqb}
 use lib.Dec.{eqb}
 use lib.ListN.{length, get_or, length-set}
 use Rattle.laws.specs.Words.{raised}
-use Rattle.laws.proofs.Lists.{get_d_set}
+use Rattle.laws.proofs.Lists.{get_or_set}
 use Rattle.board.specs.declared.Direction.{Direction}
 use Rattle.board.specs.declared.Direction.TheVariants.{Out, In}
 use Rattle.csr.specs.declared.Csr0l.{Csr0l}
@@ -86,18 +86,18 @@ packet_number n g q h = go (eqb n 0)
 
 pub number : (o : Store) (g : Log) (q : ℕ) → Whole g.regs → q < 9 → get_or (does o g).regs q 0 ≡ writes o q (get_or g.regs q 0)
 unfolding listing write_faddr write_power write_index write_csr0l flush_csr0h write_txcsrl write_rxcsrl write_iso write_maxp write_intrusbe write_intre with_faddr with_power with_index with_intrusbe with_enabled
-number (faddr a) g q six h = get_d_set g.regs 1 q a 0 (omega arith)
-number power g q six h = get_d_set g.regs 2 q 1 0 (omega arith)
-number (index e) g q six h = get_d_set g.regs 0 q e 0 (omega arith)
+number (faddr a) g q six h = get_or_set g.regs 1 q a 0 (omega arith)
+number power g q six h = get_or_set g.regs 2 q 1 0 (omega arith)
+number (index e) g q six h = get_or_set g.regs 0 q e 0 (omega arith)
 number (csr0l w) g q six h = zero_keeps w g.regs q h
 number csr0h g q six h = flush_keeps g.regs q (omega arith)
 number (txcsrl w) g q six h = own_keeps g.regs (file.index g.regs) In (tx_stored w (chosen g.regs In)) q (omega arith)
 number (rxcsrl w) g q six h = own_keeps g.regs (file.index g.regs) Out (rx_stored w (chosen g.regs Out)) q (omega arith)
 number (iso d) g q six h = own_keeps g.regs (file.index g.regs) d (with_iso (chosen g.regs d)) q (omega arith)
 number (maxp d n) g q six h = own_keeps g.regs (file.index g.regs) d (with_maxp n (chosen g.regs d)) q (omega arith)
-number intrusbe g q six h = get_d_set g.regs 3 q 7 0 (omega arith)
-number (intre Out v) g q six h = get_d_set g.regs 5 q v 0 (omega arith)
-number (intre In v) g q six h = get_d_set g.regs 4 q v 0 (omega arith)
+number intrusbe g q six h = get_or_set g.regs 3 q 7 0 (omega arith)
+number (intre Out v) g q six h = get_or_set g.regs 5 q v 0 (omega arith)
+number (intre In v) g q six h = get_or_set g.regs 4 q v 0 (omega arith)
 number (packet n) g q six h = packet_number n g q h
 
 -- how many numbers there are

@@ -1,5 +1,8 @@
 // Every store of the source: what it does to the register file, and its place in the lent list.
 // A function that stores takes how many stores stand in the list and gives back how many stand there now.
+
+#![tactic(auto)]
+
 ghost use Rattle.std.specs.Prelude.{◌≡◌, ◌+◌, ◌*◌, ◌≤◌, ◌<◌, length};
 ghost use Rattle.register_file.specs.Registers.{enabled_of, with_enabled};
 ghost use Rattle.store_rules.specs.Stores.{log, listing, with_own, write_faddr, write_power, write_index, write_csr0l, write_txcsrl, write_rxcsrl, modify_csr0l, modify_txcsrl, modify_rxcsrl, flush_csr0h, write_iso, write_maxp, write_intrusbe, write_intre, modify_intre, write_packet};

@@ -1,4 +1,7 @@
 // One entry of a trace, carried out: the call or event that it names, and its line of the report.
+
+#![tactic(auto)]
+
 ghost use Rattle.std.specs.Prelude.{◌≡◌, ◌≤◌, length, replicate};
 ghost use Rattle.trace_rules.specs.Entries.{code_of, Within};
 ghost use Rattle.calls.specs.Calls as calls;

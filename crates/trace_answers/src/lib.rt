@@ -1,5 +1,8 @@
 // The line of an entry that was carried out: its code, and the reply and values of its answer (document 01, 'Event trace').
 // A refused entry shows code and reply only. Each function gives the length of its line, which stands at the front of the lent buffer.
+
+#![tactic(auto)]
+
 ghost use Rattle.std.specs.Prelude.{◌≡◌, cond, [], ◌∷◌, ◌+◌, ◌*◌, ◌≤◌, ◌<◌, ◌^◌, length, take, drop};
 ghost use Rattle.record.specs.Record.{refusal_number, reply_number};
 ghost use Rattle.call_rules.specs.Alloc.{alloc_number, alloc_values};

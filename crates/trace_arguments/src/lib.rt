@@ -1,4 +1,7 @@
 // The arguments of an entry of a trace: numbers in their ranges, what they mean, and a packet, which stays where it stands in the trace.
+
+#![tactic(auto)]
+
 ghost use Rattle.std.specs.Prelude.{◌≡◌, ◌≤◌, length};
 ghost use Rattle.endpoints.specs.Endpoints.{type_of};
 ghost use Rattle.trace_rules.specs.Arguments.{in_range, arg_at, two_at, direction_of, wanted_of, bus_of, flag_of};

@@ -1,5 +1,8 @@
 // The two lines that stand under an entry's line when the detail is asked for: the stores that it listed, and the record after it as
 // numbers. They are for comparing with the original, whose own detail report has the same two lines.
+
+#![tactic(auto)]
+
 ghost use Rattle.std.specs.Prelude.{◌≡◌, ◌++◌, ◌+◌, ◌*◌, ◌≤◌, length};
 ghost use Rattle.trace_rules.specs.Text.{Wrote, fields};
 ghost use Rattle.detail_rules.specs.DetailLines.{store, stores, stores_line, record_line};

@@ -1,5 +1,8 @@
 // The entries of an event trace: a code, its arguments, each in its range (document 01, 'Event trace').
 // Every number goes through `trace_reader::number_from` or, of a pair, `two_from`. A packet stays in the trace: an entry holds its start and its length.
+
+#![tactic(auto)]
+
 ghost use Rattle.std.specs.Prelude.{◌≡◌};
 ghost use Rattle.trace_rules.specs.Entries.{allocate_at, one_at, one_of, write_at, read_at, stall_at, is_stalled_at, arrival_at, bus_at, code_at, entry_at, code_of};
 

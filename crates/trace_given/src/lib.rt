@@ -2,6 +2,9 @@
 // calls begins. Promised: the record is `record_of` of the numbers (detail_rules, specs/Given.antt), and a report prints these numbers of it,
 // whatever the record was whose numbers they are (`back` and `again` there). Of numbers that no report prints, a word keeps 16 bits, a control
 // register the bits that it reads, and a mark is 1 or not.
+
+#![tactic(auto)]
+
 ghost use Rattle.std.specs.Prelude.{◌≡◌, ◌+◌, ◌≤◌, ◌<◌, get_or};
 ghost use Rattle.endpoints.specs.Endpoints.{type_of};
 ghost use Rattle.detail_rules.specs.Given.{numbers_of, long_at, word_at, truth_at, with_chip, zero_tx, zero_rx, with_zero, base_of, side_from, with_sides, file_of, data_of, datas_of, state_of, record_of};

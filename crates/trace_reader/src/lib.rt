@@ -1,5 +1,8 @@
 // Numbers of an event trace, and the reader that keeps the place (document 01, 'Event trace').
 // Whatever reads a number of a trace reads it by `number_from` or `two_from`: there is no second reader.
+
+#![tactic(auto)]
+
 ghost use Rattle.std.specs.Prelude.{◌≡◌, ◌<◌};
 ghost use Rattle.trace_rules.specs.Groups.{number_at, place_after};
 
@@ -59,7 +62,7 @@ fn place_after(s: &[u8], at: usize) -> usize
 }
 
 // Document 01: "A reader over the lent bytes keeps the place". Few thin functions, each proved by hand.
-#[derive(Drop)]
+#[derive(Clone, Copy)]
 pub struct TraceReader<'a> {
     pub src: &'a [u8],
     pub at: usize,
@@ -94,7 +97,7 @@ pub fn number_from(s: &[u8], at: usize) -> Number
 }
 
 // Two numbers in a row. Where the first is none, so is the second.
-#[derive(Drop)]
+#[derive(Clone, Copy)]
 pub struct Pair {
     pub first: Number,
     pub second: Number,

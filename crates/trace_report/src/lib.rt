@@ -1,4 +1,7 @@
 // The report of an event trace, as text: bytes appended to a lent buffer. Each function gives the place after what it wrote.
+
+#![tactic(auto)]
+
 ghost use Rattle.std.specs.Prelude.{[], ◌∷◌, ◌+◌, ◌*◌, ◌≤◌, length};
 ghost use Rattle.trace_rules.specs.Text.{Wrote};
 ghost use Rattle.trace_rules.specs.Lines.{numbers, line, header, last_line};

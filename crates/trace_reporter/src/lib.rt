@@ -1,5 +1,8 @@
 // Writes the report of a trace to standard output, a line at a time: the same memory for every trace.
 // Document 01: `musb-trace 1`, a line for each entry, and the last line.
+
+#![tactic(auto)]
+
 ghost use Rattle.std.specs.Prelude.{◌≡◌, true, ◌+◌, ◌≤◌, length, take, replicate};
 ghost use Rattle.board.specs.declared.Board.TheVariants.{Display};
 ghost use Rattle.record.specs.Record.{fresh_record};

@@ -1,4 +1,7 @@
 // An event trace, a step at a time: what stands at a place is parsed, carried out, and rendered as one line of the report.
+
+#![tactic(auto)]
+
 ghost use Rattle.std.specs.Prelude.{◌≡◌};
 ghost use Rattle.report_rules.specs.Act.{state, Lent};
 ghost use Rattle.report_rules.specs.Report.{stepped, step_of, Moves};

@@ -1,4 +1,7 @@
 // The text of a report, piece by piece: bytes, decimal numbers, fields. Each function writes at a place of a lent buffer and gives the place after.
+
+#![tactic(auto)]
+
 ghost use Rattle.std.specs.Prelude.{◌≡◌, [], ◌∷◌, ◌+◌, ◌*◌, ◌≤◌, ◌<◌, min, length};
 ghost use Rattle.trace_rules.specs.Text.{Wrote, decimal, field, fields};
 

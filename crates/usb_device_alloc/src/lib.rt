@@ -1,4 +1,7 @@
 // The call `alloc_ep` of the source's usb_device_impl/mod.rs: an endpoint by the source's alloc_endpoint.rs. No list is lent.
+
+#![tactic(auto)]
+
 ghost use Rattle.std.specs.Prelude.{◌≡◌};
 ghost use Rattle.board.specs.Boards.{rows};
 ghost use Rattle.endpoints.specs.Endpoints.{ask};

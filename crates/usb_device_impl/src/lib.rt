@@ -2,6 +2,9 @@
 // A call takes the record by value, any numbers and any lent list, tests what document 01 refuses before anything changes, and gives back
 // its answer, the record and how many stores stand in the list. It takes the record apart once: what runs below it is lent the register
 // file and takes only the other parts that it looks at.
+
+#![tactic(auto)]
+
 ghost use Rattle.std.specs.Prelude.{◌≡◌, ◌≤◌, ◌<◌, leb, ltb, false};
 ghost use Rattle.store_rules.specs.Stores.{log};
 ghost use Rattle.record.specs.Record.{passes, admission_by, endpoints_in, list_need};

@@ -1,4 +1,7 @@
 // `on_interrupt` of the source: it reads the three interrupt registers, which clears them, and takes what it read into the flags.
+
+#![tactic(auto)]
+
 ghost use Rattle.std.specs.Prelude.{◌≡◌, cond, ◌<◌, ◌≤◌};
 ghost use Rattle.laws.specs.Words.{bit};
 ghost use Rattle.event_rules.specs.Events.{bus_bit};

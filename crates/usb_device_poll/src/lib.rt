@@ -1,4 +1,7 @@
 // `poll` of the source: the overrun check, Reset, Resume, Suspend, and then a round: endpoint 0, and the walk of the receive flags.
+
+#![tactic(auto)]
+
 ghost use Rattle.std.specs.Prelude.{◌≡◌, false, ◌+◌, ◌*◌, ◌≤◌, ◌<◌, length};
 ghost use Rattle.store_rules.specs.Stores.{log};
 ghost use Rattle.round_rules.specs.Round.{told};

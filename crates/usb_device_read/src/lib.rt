@@ -2,6 +2,9 @@
 // What is refused is tested before anything changes, in document 01's order and then document 02's (the source selects the endpoint first,
 // panics where it can't go on, and cuts a packet that the buffer has no room for); after that the steps are the source's, in its order:
 // endpoint 0's by the control state, then those of the others.
+
+#![tactic(auto)]
+
 ghost use Rattle.std.specs.Prelude.{◌≡◌, true, ◌<◌, ◌+◌, ◌*◌, ◌≤◌, length, get_or};
 ghost use Rattle.transfer_rules.specs.ReadTests.{unreadable_in, not_readable, not_setup_in, not_setup, overflows, own_tests_at, tests_in};
 ghost use Rattle.store_rules.specs.Stores.{log};

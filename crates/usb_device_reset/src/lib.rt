@@ -1,4 +1,7 @@
 // The call `reset` of the source's usb_device_impl/mod.rs: every endpoint that is used is enabled again.
+
+#![tactic(auto)]
+
 ghost use Rattle.std.specs.Prelude.{◌≡◌, ◌+◌, ◌*◌, ◌≤◌, ◌<◌, length, false};
 ghost use Rattle.store_rules.specs.Stores.{log};
 ghost use Rattle.record.specs.Record.{list_need};

@@ -1,4 +1,7 @@
 // The calls `set_stalled` and `is_stalled` of the source's usb_device_impl/mod.rs.
+
+#![tactic(auto)]
+
 ghost use Rattle.std.specs.Prelude.{◌≡◌, ◌+◌, ◌*◌, ◌≤◌, length};
 ghost use Rattle.store_rules.specs.Stores.{log, write_index};
 ghost use Rattle.common_rules.specs.Common.{is_stalled};

@@ -1,6 +1,9 @@
 // The call `write` of the source's usb_device_impl: a packet into an endpoint's transmit area.
 // What is refused is tested before anything changes, in document 01's order (the source selects the endpoint first, and panics where it
 // can't go on); after that the steps are the source's, in its order: endpoint 0's by the control state, then those of the others.
+
+#![tactic(auto)]
+
 ghost use Rattle.std.specs.Prelude.{◌≡◌, ◌<◌, ◌+◌, ◌*◌, ◌≤◌, length};
 ghost use Rattle.transfer_rules.specs.WriteTests.{too_long, untaken_in, not_writable, own_tests_at, tests_in};
 ghost use Rattle.laws.specs.Words.{raised};
