@@ -12,9 +12,6 @@ use Rattle.store_rules.specs.Stores.{Log, write_index, modify_csr0l}
 use Rattle.control_state.specs.declared.ControlState.{ControlState}
 use Rattle.control_state.specs.declared.ControlStateEnum.{ControlStateEnum}
 use Rattle.control_state.specs.declared.ControlStateEnum.TheVariants.{Idle, Setup, DataIn, DataOut, Accepted, NodataPhase}
-use Rattle.control_state.specs.contracts.ControlStateEnum.{the_type}
-use denote.Enum.Declared.{tag_of}
-use types.Run.{OneOf, miss}
 use Rattle.control_state.specs.Control.{with_state, with_tx_len}
 use Rattle.record.specs.declared.Flags.{Flags}
 use Rattle.record.specs.Record.{with_ep0}
@@ -77,36 +74,36 @@ module _ (g : Log) (c : ControlState) (f : Flags) where
   unfolding endpoint_zero
   zero_down t = when_false _ _ t refl
 
--- what a match leaves for its last arm `_`, by the numbers of the states
-pub sent_other_lem : (s : ControlStateEnum) (f : Flags) → OneOf (0 ∷ 1 ∷ 3 ∷ 4 ∷ 5 ∷ []) (tag_of the_type s) → f ≡ sent_by s f
+-- what a match leaves for its last arm `_`: the states that the arms before it take are not met there
+pub sent_other_lem : (s : ControlStateEnum) (f : Flags) → (s ≡ DataIn → ⊥) → f ≡ sent_by s f
 unfolding sent_by
 sent_other_lem Idle f k = refl
 sent_other_lem Setup f k = refl
-sent_other_lem DataIn f k = absurd (miss (0 ∷ 1 ∷ 3 ∷ 4 ∷ 5 ∷ []) 2 tt k)
+sent_other_lem DataIn f k = absurd (k refl)
 sent_other_lem DataOut f k = refl
 sent_other_lem Accepted f k = refl
 sent_other_lem NodataPhase f k = refl
 
-pub received_other : (s : ControlStateEnum) (g : Log) (c : ControlState) (f : Flags) → OneOf (1 ∷ 4 ∷ 5 ∷ []) (tag_of the_type s) → round g c f false ≡ received_by s g c f
+pub received_other : (s : ControlStateEnum) (g : Log) (c : ControlState) (f : Flags) → (s ≡ Idle → ⊥) → (s ≡ DataOut → ⊥) → (s ≡ DataIn → ⊥) → round g c f false ≡ received_by s g c f
 unfolding received_by
-received_other Idle g c f k = absurd (miss (1 ∷ 4 ∷ 5 ∷ []) 0 tt k)
-received_other Setup g c f k = refl
-received_other DataIn g c f k = absurd (miss (1 ∷ 4 ∷ 5 ∷ []) 2 tt k)
-received_other DataOut g c f k = absurd (miss (1 ∷ 4 ∷ 5 ∷ []) 3 tt k)
-received_other Accepted g c f k = refl
-received_other NodataPhase g c f k = refl
+received_other Idle g c f i o d = absurd (i refl)
+received_other Setup g c f i o d = refl
+received_other DataIn g c f i o d = absurd (d refl)
+received_other DataOut g c f i o d = absurd (o refl)
+received_other Accepted g c f i o d = refl
+received_other NodataPhase g c f i o d = refl
 
-accepted_other : (s : ControlStateEnum) (c : ControlState) (f : Flags) → OneOf (0 ∷ 1 ∷ 2 ∷ 3 ∷ 5 ∷ []) (tag_of the_type s)
+accepted_other : (s : ControlStateEnum) (c : ControlState) (f : Flags) → (s ≡ Accepted → ⊥)
     → record { control_state = c; irq = f } ≡ accepted_by s c f
 unfolding accepted_by
 accepted_other Idle c f k = refl
 accepted_other Setup c f k = refl
 accepted_other DataIn c f k = refl
 accepted_other DataOut c f k = refl
-accepted_other Accepted c f k = absurd (miss (0 ∷ 1 ∷ 2 ∷ 3 ∷ 5 ∷ []) 4 tt k)
+accepted_other Accepted c f k = absurd (k refl)
 accepted_other NodataPhase c f k = refl
 
-pub not_accepted : (s : ControlStateEnum) (c : ControlState) (f : Flags) → OneOf (0 ∷ 1 ∷ 2 ∷ 3 ∷ 5 ∷ []) (tag_of the_type s) → s ≡ c.state
+pub not_accepted : (s : ControlStateEnum) (c : ControlState) (f : Flags) → (s ≡ Accepted → ⊥) → s ≡ c.state
     → record { control_state = c; irq = f } ≡ accept_step c f
 unfolding accept_step
 not_accepted s c f k e = accepted_other s c f k ∙ ap (λ (x : ControlStateEnum). accepted_by x c f) e

@@ -22,7 +22,7 @@ use register_file::Regs;
 use transfer_rules::{ReadAnswer, ReadCalled, ReadRan, Served, Verdict};
 
 pub fn read(k: Record, ep: u8, buf: &mut [u8], fifo: &[u8], list: &mut [u16]) -> ReadCalled
-    ensures* { λ o. ⌜ record { result = o; list = list.new; buf = buf.new } ≡ read_call k ep buf.old fifo.now list.old ⌝ }
+    ensures { record { result = result; list = list.new; buf = buf.new } ≡ read_call k ep buf.old fifo.now list.old }
 {
     let r = k.regs;
     let e = k.endpoints;

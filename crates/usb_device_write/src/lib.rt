@@ -24,7 +24,7 @@ use register_file::Regs;
 use transfer_rules::{Served, Verdict, WriteAnswer, WriteCalled, WriteRan};
 
 pub fn write(k: Record, ep: u8, bytes: &[u8], fifo: &mut [u8], list: &mut [u16]) -> WriteCalled
-    ensures* { λ o. ⌜ record { result = o; fifo = fifo.new; list = list.new } ≡ write_call k ep bytes.now fifo.old list.old ⌝ }
+    ensures { record { result = result; fifo = fifo.new; list = list.new } ≡ write_call k ep bytes.now fifo.old list.old }
 {
     let r = k.regs;
     let e = k.endpoints;
