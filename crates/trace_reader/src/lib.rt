@@ -61,7 +61,7 @@ fn place_after(s: &[u8], at: usize) -> usize
     }
 }
 
-// Document 01: "A reader over the lent bytes keeps the place". Few thin functions, each proved by hand.
+// Document 01: "A reader over the lent bytes keeps the place". Few thin functions over `number_at`, which is covered.
 #[derive(Clone, Copy)]
 pub struct TraceReader<'a> {
     pub src: &'a [u8],

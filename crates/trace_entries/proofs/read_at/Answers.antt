@@ -1,0 +1,15 @@
+-- `trace_entries::read_at` meets its contract.
+-- Assumes nothing.
+use Rattle.trace_rules.proofs.EntryCases.{read_is, read_bad}
+use Rattle.trace_rules.proofs.ArgumentRanges.{two_first}
+use borrow.Author.Rules.{rules}
+use Rattle.trace_entries.proofs.read_at.Goals as goal
+
+pub narrow-requires : goal.narrow-requires
+narrow-requires c = search (two_first, rules)
+
+pub returns-in-Both : goal.returns-in-Both
+returns-in-Both c = search (read_is, rules)
+
+pub returns-in-Neither : goal.returns-in-Neither
+returns-in-Neither c = search (read_bad, rules)
