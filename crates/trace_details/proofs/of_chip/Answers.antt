@@ -1,6 +1,6 @@
 -- `trace_details::of_chip` meets its contract.
 -- Assumes nothing.
-use mathlib.Core.List.{◌∷◌}
+use mathlib.Core.List.{[], ◌∷◌}
 use mathlib.Core.Path.{ap, ◌∙◌}
 use Rattle.csr.specs.Control.{csr0l_number}
 use Rattle.register_file.specs.Registers.{index, faddr, power, intrusbe, enabled_of, intrusb, intr_of}

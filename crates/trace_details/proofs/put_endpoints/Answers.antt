@@ -30,7 +30,7 @@ loop-i-smaller c = omega arith
 pub loop-i-preserved : goal.loop-i-preserved
 loop-i-preserved c = let l = c.loop-i in
     let w = c.put_endpoint-m.ensures in
-    (omega arith, endpoints_more _ _ l.i l.invariant.1 w.0, omega (arith, w.1), omega (arith, kept w.0), l.invariant.4)
+    (omega arith, endpoints_more _ _ l.i l.invariant.1 w.wrote, omega (arith, w.upper_bound), omega (arith, kept w.wrote), l.invariant.4)
 
 pub shape_of-out : goal.shape_of-out
 shape_of-out c = omega arith

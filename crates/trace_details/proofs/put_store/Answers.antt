@@ -3,5 +3,8 @@
 use Rattle.detail_rules.proofs.DetailWritten.{store_ends}
 use Rattle.trace_details.proofs.put_store.Goals as goal
 
-pub returns : goal.returns
-returns c = store_ends _ _ _ c.wide_word.ensures c.wide_word-2.ensures c.wide_word-3.ensures c.put_field-a.ensures.wrote c.put_text-b.ensures c.put_decimal-c.ensures.wrote c.put_text-d.ensures c.put_decimal.ensures.wrote
+pub returns-clause-wrote : goal.returns-clause-wrote
+returns-clause-wrote c = (store_ends _ _ _ c.wide_word.ensures c.wide_word-2.ensures c.wide_word-3.ensures c.put_field-a.ensures.wrote c.put_text-b.ensures c.put_decimal-c.ensures.wrote c.put_text-d.ensures c.put_decimal.ensures.wrote).0
+
+pub returns-clause-upper_bound : goal.returns-clause-upper_bound
+returns-clause-upper_bound c = (store_ends _ _ _ c.wide_word.ensures c.wide_word-2.ensures c.wide_word-3.ensures c.put_field-a.ensures.wrote c.put_text-b.ensures c.put_decimal-c.ensures.wrote c.put_text-d.ensures c.put_decimal.ensures.wrote).1

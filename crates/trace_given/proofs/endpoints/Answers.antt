@@ -1,7 +1,7 @@
 -- `trace_given::endpoints` meets its contract.
 -- Assumes nothing.
 use Rattle.detail_rules.specs.Given.{datas_of}
-use mathlib.Core.List.{◌∷◌}
+use mathlib.Core.List.{[], ◌∷◌}
 use Rattle.trace_given.proofs.endpoints.Goals as goal
 
 pub returns : goal.returns

@@ -1,7 +1,7 @@
 -- `trace_report::counted_line` meets its contract.
 -- Assumes nothing.
 use native.Mathlib.Omega.{arith}
-use mathlib.Core.List.{◌∷◌}
+use mathlib.Core.List.{[], ◌∷◌}
 use Rattle.trace_rules.proofs.LinesAppended.{with_field, with_fields, ends}
 use Rattle.trace_report.proofs.counted_line.Goals as goal
 

@@ -1,7 +1,7 @@
 -- `trace_report::value_line` meets its contract.
 -- Assumes nothing.
 use native.Mathlib.Omega.{arith}
-use mathlib.Core.List.{◌∷◌}
+use mathlib.Core.List.{[], ◌∷◌}
 use Rattle.trace_rules.proofs.LinesAppended.{with_field, ends}
 use Rattle.trace_report.proofs.value_line.Goals as goal
 
