@@ -89,7 +89,7 @@ does_lasting : (o : Store) (g : Log) (e : ℕ) → Whole g.regs → file.index g
 does_lasting o g e six low = rw (sides o g e Out six low) (leaves_lasting o (file.index g.regs) e (side_at g.regs e Out))
 
 -- the stores of a call
-path_lasting : {b : Board} {x : Bool} {g h : Log} {c : ℕ} → Reached (Sane b) g x c h → Holds b g.regs → (e : ℕ) → Lasting (side_at g.regs e Out) (side_at h.regs e Out)
+path_lasting : {b : Board} {g : Log} {x : Bool} {h : Log} {c : ℕ} → Reached (Sane b) g x c h → Holds b g.regs → (e : ℕ) → Lasting (side_at g.regs e Out) (side_at h.regs e Out)
 path_lasting none k e = same
 path_lasting (within r d i) k e = path_lasting r k e
 path_lasting (then {h} r (one o) m) k e =

@@ -94,7 +94,7 @@ counted o h {c} six i = rw (noted.others o h six).count (go (is_listed o))
     go true = omega arith
     go false = omega arith
 
-pub few : {May : Step → Log → Type 0} {x : Bool} {g h : Log} {c : ℕ} → Whole g.regs → g.count ≡ 0 → Reached May g x c h → h.count ≤ c
+pub few : {May : Step → Log → Type 0} {g : Log} {x : Bool} {h : Log} {c : ℕ} → Whole g.regs → g.count ≡ 0 → Reached May g x c h → h.count ≤ c
 few six z none = omega (arith, z)
 few six z (then {h} p (one o) m) = counted o h (keeps six p).six (few six z p)
 few six z (then {h} {c} p (sent n o) m) =

@@ -67,7 +67,7 @@ still_ended (packet n) b p = p
 store_ended : (o : Store) (g : Log) → Whole g.regs → setupend (does o g).regs ≡ true → setupend g.regs ≡ true
 store_ended o g six p = still_ended o (setupend g.regs) (sym (noted.others o g six).ended ∙ p)
 
-pub path_ended : {May : Step → Log → Type 0} {x : Bool} {g h : Log} {c : ℕ} → Whole g.regs → Reached May g x c h → setupend h.regs ≡ true → setupend g.regs ≡ true
+pub path_ended : {May : Step → Log → Type 0} {g : Log} {x : Bool} {h : Log} {c : ℕ} → Whole g.regs → Reached May g x c h → setupend h.regs ≡ true → setupend g.regs ≡ true
 path_ended six none p = p
 path_ended six (within r d i) p = path_ended six r p
 path_ended six (then {h} r (one o) m) p = path_ended six r (store_ended o h (keeps six r).six p)

@@ -70,7 +70,7 @@ pub data Reached (May : Step → Log → Type 0) (g : Log) : Bool → ℕ → Lo
   then : {h : Log} {c : ℕ} → Reached May g false c h → (s : Step) → May s h → Reached May g (closes s) (c + most s) (makes s h)
   within : {e : Bool} {h : Log} {c : ℕ} → Reached May g e c h → (d : ℕ) → c ≤ d → Reached May g e d h
 
-pub weaken : {May Might : Step → Log → Type 0} {e : Bool} {g h : Log} {c : ℕ} → ((s : Step) (x : Log) → May s x → Might s x) → Reached May g e c h → Reached Might g e c h
+pub weaken : {May Might : Step → Log → Type 0} {g : Log} {e : Bool} {h : Log} {c : ℕ} → ((s : Step) (x : Log) → May s x → Might s x) → Reached May g e c h → Reached Might g e c h
 weaken f none = none
 weaken f (then r s m) = then (weaken f r) s (f s _ m)
 weaken f (within r d i) = within (weaken f r) d i
@@ -137,7 +137,7 @@ same_one o g k =
     let t = rest o g k.six in
     record { usb = t.usb ∙ k.usb; intr = λ d. t.intr d ∙ k.intr d; six = t.whole ∙ k.six }
 
-pub keeps : {May : Step → Log → Type 0} {x : Bool} {g h : Log} {c : ℕ} → Whole g.regs → Reached May g x c h → Same g.regs h.regs
+pub keeps : {May : Step → Log → Type 0} {g : Log} {x : Bool} {h : Log} {c : ℕ} → Whole g.regs → Reached May g x c h → Same g.regs h.regs
 keeps six none = record { usb = refl; intr = λ d. refl; six = six }
 keeps six (then {h} r (one o) m) = same_one o h (keeps six r)
 keeps six (then {h} r (sent n o) m) = same_one o (does (packet n) h) (same_one (packet n) h (keeps six r))
@@ -291,14 +291,14 @@ module _ {b : Board} (n : ℕ) (o : Store) (g : Log) (m : Sends b n o g) (k : Ho
           by (yes p) = ready_here e p
           by (no q) = elsewhere e In (packet_other n _ e _ q)
 
-pub holds : {b : Board} {x : Bool} {g h : Log} {c : ℕ} → Reached (Sane b) g x c h → Holds b g.regs → Holds b h.regs
+pub holds : {b : Board} {g : Log} {x : Bool} {h : Log} {c : ℕ} → Reached (Sane b) g x c h → Holds b g.regs → Holds b h.regs
 holds none k = k
 holds (then {h} r (one o) m) k = holds_one o h m (holds r k)
 holds (then {h} r (sent n o) m) k = holds_sent n o h m (holds r k)
 holds (within r c i) k = holds r k
 
 -- SendStall of endpoints 1 to 5
-pub same_halts : {b : Board} {x : Bool} {g h : Log} {c : ℕ} → Reached (Gentle b) g x c h → Holds b g.regs → SameHalts g.regs h.regs
+pub same_halts : {b : Board} {g : Log} {x : Bool} {h : Log} {c : ℕ} → Reached (Gentle b) g x c h → Holds b g.regs → SameHalts g.regs h.regs
 same_halts none k e d n = refl
 same_halts (then {h} r (one o) m) k e d n =
     let t = (holds (gentle_sane r) k).standing in
@@ -315,7 +315,7 @@ same_halts (within r c i) k e d n = same_halts r k e d n
 abbrev pub SameReady : File → File → Type 0
 SameReady r q = (e : ℕ) → (e ≡ 0 → ⊥) → (side_at q e Out).ready ≡ (side_at r e Out).ready
 
-pub same_ready : {b : Board} {x : Bool} {g h : Log} {c : ℕ} → Reached (Careful b) g x c h → Holds b g.regs → SameReady g.regs h.regs
+pub same_ready : {b : Board} {g : Log} {x : Bool} {h : Log} {c : ℕ} → Reached (Careful b) g x c h → Holds b g.regs → SameReady g.regs h.regs
 same_ready none k e n = refl
 same_ready (then {h} r (one o) m) k e n =
     let t = holds (gentle_sane (careful_gentle r)) k in
