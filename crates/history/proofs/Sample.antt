@@ -235,15 +235,15 @@ module _ {k q : Record} (x : Both k q) where
 -- so they do over any more operations
 pub after_all : {k q : Record} → Both k q → (h : List Do) → Both (run M k (ops h)) (run sample q h)
 after_all x [] = x
-after_all x (o ∷ h) = after_all (after_one x o) h
+after_all {k} x (o ∷ h) = after_all {k = M.step k (op o)} (after_one x o) h
 
 some_of : (test : Event → Bool) {k q : Record} → Both k q → (h : List Do) → some M test k (ops h) ≡ some sample test q h
 some_of test x [] = refl
-some_of test x (o ∷ h) = λ i. test (event_of x o i) || some_of test (after_one x o) h i
+some_of test {k} x (o ∷ h) = λ i. test (event_of x o i) || some_of test {k = M.step k (op o)} (after_one x o) h i
 
 stays_of : (e : ℕ) {k q : Record} → Both k q → (h : List Do) → Stays sample e q h → Stays M e k (ops h)
 stays_of e x [] w = subst (λ (k : Record). T (waiting k e)) (sym x.same) w
-stays_of e x (o ∷ h) w = (subst (λ (k : Record). T (waiting k e)) (sym x.same) w.0, stays_of e (after_one x o) h w.1)
+stays_of e {k} x (o ∷ h) w = (subst (λ (k : Record). T (waiting k e)) (sym x.same) w.0, stays_of e {k = M.step k (op o)} (after_one x o) h w.1)
 
 ends_of : (first : Bool) {k q : Record} → Both k q → (h : List Do) → ends_in_round M first k (ops h) ≡ ends_in_round sample first q h
 ends_of first x [] = refl
@@ -252,15 +252,17 @@ ends_of first {k} {q} x (o ∷ h) =
 
 pub false_of : (e : ℕ) {k q : Record} → Both k q → (h : List Do) → false_namings M e k (ops h) ≡ false_namings sample e q h
 false_of e x [] = refl
-false_of e x (o ∷ h) = λ i. count (names e (event_of x o i) && not (waiting (x.same i) e)) + false_of e (after_one x o) h i
+false_of e {k} x (o ∷ h) = λ i. count (names e (event_of x o i) && not (waiting (x.same i) e)) + false_of e {k = M.step k (op o)} (after_one x o) h i
 
 pub above_of : (e : ℕ) {k q : Record} → Both k q → (h : List Do) → arrivals_above M e k (ops h) ≡ arrivals_above sample e q h
 above_of e x [] = refl
-above_of e x (o ∷ h) = λ i. count (arrives_above e (event_of x o i)) + above_of e (after_one x o) h i
+above_of e {k} x (o ∷ h) = λ i. count (arrives_above e (event_of x o i)) + above_of e {k = M.step k (op o)} (after_one x o) h i
 
 pub rounds_of : {k q : Record} → Both k q → (h : List Do) → rounds_from M k (ops h) ≡ rounds_from sample q h
 rounds_of x [] = refl
-rounds_of x (o ∷ h) = λ i. cond (is_round (event_of x o i)) (event_of x o i ∷ rounds_of (after_one x o) h i) (rounds_of (after_one x o) h i)
+rounds_of {k} x (o ∷ h) =
+    let r = rounds_of {k = M.step k (op o)} (after_one x o) h in
+    λ i. cond (is_round (event_of x o i)) (event_of x o i ∷ r i) (r i)
 
 -- the sentences' premises, from the sample's history to the driver's
 back : (test : Event → Bool) {v w : Event} → v ≡ w → T (test w) → T (test v)
