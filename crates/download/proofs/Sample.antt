@@ -268,34 +268,36 @@ ops = map op
 
 pub after_all : {k q : Record} → Both k q → (h : List Act) → Both (runs k (ops h)) (last q h)
 after_all x [] = x
-after_all x (a ∷ h) = after_all (after_one x a) h
+after_all {k} x (a ∷ h) = after_all {k = step k (op a)} (after_one x a) h
 
 pub total_of : {k q : Record} → Both k q → (h : List Act) → total k (ops h) ≡ total_in q h
 total_of x [] = refl
-total_of x (a ∷ h) = λ i. sent (part_of_lem x a i) + total_of (after_one x a) h i
+total_of {k} x (a ∷ h) = λ i. sent (part_of_lem x a i) + total_of {k = step k (op a)} (after_one x a) h i
 
 pub finished_of : (n : ℕ) {t u : ℕ} → t ≡ u → {k q : Record} → Both k q → (h : List Act) → finished n t k (ops h) ≡ finished_in n u q h
 finished_of n p x [] = refl
-finished_of n p x (a ∷ h) =
-    λ i. finishes n (p i) (tx_size (x.same i)) (part_of_lem x a i) || finished_of n (λ j. p j + sent (part_of_lem x a j)) (after_one x a) h i
+finished_of n {t} p {k} x (a ∷ h) =
+    let r = finished_of n {t = t + sent (part k (op a))} (λ j. p j + sent (part_of_lem x a j)) {k = step k (op a)} (after_one x a) h in
+    λ i. finishes n (p i) (tx_size (x.same i)) (part_of_lem x a i) || r i
 
 pub none_of : (test : Part → Bool) {k q : Record} → Both k q → (h : List Act) → none test k (ops h) ≡ none_in test q h
 none_of test x [] = refl
-none_of test x (a ∷ h) = λ i. not (test (part_of_lem x a i)) && none_of test (after_one x a) h i
+none_of test {k} x (a ∷ h) = λ i. not (test (part_of_lem x a i)) && none_of test {k = step k (op a)} (after_one x a) h i
 
 pub none_anew_of : {b c : Bool} → b ≡ c → {k q : Record} → Both k q → (h : List Act) → none_anew b k (ops h) ≡ none_anew_in c q h
 none_anew_of p x [] = refl
-none_anew_of p x (a ∷ h) =
-    λ i. not (p i && is_reading (part_of_lem x a i)) && none_anew_of (λ j. p j || is_reporting (part_of_lem x a j)) (after_one x a) h i
+none_anew_of {b} p {k} x (a ∷ h) =
+    let r = none_anew_of {b = b || is_reporting (part k (op a))} (λ j. p j || is_reporting (part_of_lem x a j)) {k = step k (op a)} (after_one x a) h in
+    λ i. not (p i && is_reading (part_of_lem x a i)) && r i
 
 pub replies_of : {k q : Record} → Both k q → (h : List Act) → replies k (ops h) ≡ replies_in q h
 replies_of x [] = refl
-replies_of x (a ∷ h) = λ i. (outcome_of_lem x a i).reply ∷ replies_of (after_one x a) h i
+replies_of {k} x (a ∷ h) = λ i. (outcome_of_lem x a i).reply ∷ replies_of {k = step k (op a)} (after_one x a) h i
 
 pub states_of : {k q : Record} → Both k q → (h : List Act) → states k (ops h) ≡ states_in q h
 states_of x [] = λ i. state (x.same i) ∷ []
-states_of x (a ∷ h) = λ i. state (x.same i) ∷ states_of (after_one x a) h i
+states_of {k} x (a ∷ h) = λ i. state (x.same i) ∷ states_of {k = step k (op a)} (after_one x a) h i
 
 pub ended_of : {k q : Record} → Both k q → (h : List Act) → ended k (ops h) ≡ ended_in q h
 ended_of x [] = refl
-ended_of x (a ∷ h) = λ i. stores_end (outcome_of_lem x a i).list (outcome_of_lem x a i).stores ∷ ended_of (after_one x a) h i
+ended_of {k} x (a ∷ h) = λ i. stores_end (outcome_of_lem x a i).list (outcome_of_lem x a i).stores ∷ ended_of {k = step k (op a)} (after_one x a) h i
