@@ -1,6 +1,6 @@
 -- What is appended: a line's pieces, one after another.
 -- Assumes nothing.
-use Prim.Native.Nat.{ℕ, ◌+◌}
+use Prim.Native.Nat.{ℕ}
 use mathlib.Core.Path.{sym, ap, ◌∙◌}
 use mathlib.Core.List.{List, [], ◌∷◌, ◌++◌, append_assoc}
 use Rattle.trace_rules.specs.Text.{Wrote, decimal, field, fields}

@@ -1,6 +1,6 @@
 -- The lines of a report. Document 01: "Each line ends in one newline; one blank parts its fields".
 -- Assumes nothing.
-use Rattle.std.specs.Prelude.{ℕ, ◌+◌, List, [], ◌∷◌, ◌++◌}
+use Rattle.std.specs.Prelude.{ℕ, List, [], ◌∷◌, ◌++◌}
 use Rattle.trace_rules.specs.Text.{decimal, field, fields}
 
 -- numbers, parted by one blank: none before the first, none after the last

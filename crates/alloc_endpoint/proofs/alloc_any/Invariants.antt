@@ -9,7 +9,7 @@ use Rattle.endpoints.specs.declared.Wanted.TheVariants.{Any}
 use Rattle.alloc_endpoint.proofs.alloc_any.Given as goal
 
 abbrev pub invariant-loop-i : goal.invariant-loop-i
-invariant-loop-i l = 
+invariant-loop-i l =
     let q = ask l.ep_type l.direction l.max_packet_size in
     first_from (rows l.board) l.endpoints q l.i (l.count - l.i) ≡ answer_to (rows l.board) l.endpoints q Any
 

@@ -1,4 +1,3 @@
-use Prim.Native.Nat.{◌-◌}
 use native.Mathlib.Omega.{arith}
 use Rattle.board.proofs.Walk.{size_first, size_next, size_last}
 use Rattle.board.proofs.sizes_of.Goals as goal

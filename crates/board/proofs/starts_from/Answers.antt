@@ -1,4 +1,3 @@
-use Prim.Native.Nat.{◌-◌}
 use native.Mathlib.Omega.{arith}
 use Rattle.board.proofs.Areas.{inside}
 use Rattle.board.proofs.Walk.{start_first, start_next}

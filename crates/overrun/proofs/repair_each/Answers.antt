@@ -1,7 +1,6 @@
 use Rattle.common_rules.specs.Overrun.{under_run_cleared, over_run_cleared, repaired, repaired_below}
 use Rattle.store_rules.specs.Stores.{Log}
 use mathlib.Core.Path.{ap, ◌∙◌}
-use Prim.Native.Nat.{◌-◌}
 use native.Mathlib.Omega.{arith}
 use Rattle.common_rules.proofs.Walk.{begin, turn, done}
 use Rattle.overrun.proofs.repair_each.Goals as goal

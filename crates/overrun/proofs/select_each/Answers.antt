@@ -1,5 +1,4 @@
 use Rattle.common_rules.specs.Overrun.{selected_only, selected_below}
-use Prim.Native.Nat.{◌-◌}
 use native.Mathlib.Omega.{arith}
 use Rattle.common_rules.proofs.Walk.{begin, turn, done}
 use Rattle.overrun.proofs.select_each.Goals as goal

@@ -3,7 +3,6 @@ use Rattle.register_file.specs.Sound.{sides_below}
 use Rattle.laws.specs.Tests.{◌also◌}
 use native.Mathlib.Omega.{arith}
 use mathlib.Core.Path.{◌≡◌, ap, sym, ◌∙◌}
-use Prim.Native.Nat.{◌-◌}
 use Rattle.regs.proofs.sides_sound.Goals as goal
 
 pub loop-i-init : goal.loop-i-init

@@ -1,4 +1,3 @@
-use Prim.Native.Nat.{◌-◌}
 use native.Mathlib.Omega.{arith}
 use Rattle.trace_rules.proofs.Appended.{fields_none, fields_more, fields_most, fields_all, kept}
 use Rattle.trace_text.proofs.put_fields.Goals as goal

@@ -1,4 +1,3 @@
-use Prim.Native.Nat.{◌-◌}
 use native.Mathlib.Omega.{arith}
 use Rattle.trace_rules.proofs.Appended.{text_none, text_more, text_all, kept}
 use Rattle.trace_text.proofs.put_text.Goals as goal
