@@ -12,6 +12,8 @@ use board::{Board, Direction};
 use csr::{Csr0l, Csr0lSet, Rxcsrl, RxcsrlSet, Txcsrl, TxcsrlSet};
 use event_rules::BusEvent;
 use register_file::Regs;
+use std::io;
+use std::io::Write;
 
 fn csr0l_of(v: u16) -> Csr0l {
     Csr0l {
@@ -221,30 +223,37 @@ fn sum(code: u8, b: &[u8; 1664]) -> u32
 }
 
 // The first line of a step: its code and endpoint, a number that it read or the sum, and the bytes that it read.
-fn put_first(w: &[u16; 46], code: u8, e: u8, v: u16, word: u16, fifo: &[u8; 1664]) {
+fn put_first<W: Write>(
+    to: &mut W,
+    w: &[u16; 46],
+    code: u8,
+    e: u8,
+    v: u16,
+    word: u16,
+    fifo: &[u8; 1664],
+) -> io::Result<()> {
     let mut line = [0u8; 256];
     let number = word as u32 + sum(code, fifo);
     if (code == 30) | (code == 31) {
         let out = taken(w, e, side(code), v, fifo);
         let n = trace_report::counted_line(&mut line, code, e, number, &out);
-        io::write_all(1, &line[..n]);
-        return;
+        return to.write_all(&line[..n]);
     }
     let m = trace_report::value_line(&mut line, code, e, number);
-    io::write_all(1, &line[..m]);
+    to.write_all(&line[..m])
 }
 
 // The two lines of the detail report.
-fn put_details(r: Regs, list: &[u16; 384], n: usize)
+fn put_details<W: Write>(to: &mut W, r: Regs, list: &[u16; 384], n: usize) -> io::Result<()>
     requires { n ≤ 1 }
 {
     let mut line = [0u8; 2048];
     let a = trace_details::stores_line(&mut line, list, n);
-    io::write_all(1, &line[..a]);
+    to.write_all(&line[..a])?;
     let mut k = record_ops::fresh(Board::Display);
     k.regs = r;
     let b = trace_details::record_line(&mut line, k);
-    io::write_all(1, &line[..b]);
+    to.write_all(&line[..b])
 }
 
 // A case begins with fresh registers.
@@ -257,36 +266,44 @@ fn begun(code: u8, r: Regs) -> Regs {
 }
 
 // A step of the script, five bytes: the code; an endpoint, or an address; a number, low byte first; a packet's first byte.
-fn act(script: &[u8], at: usize, r: Regs, list: &mut [u16; 384], fifo: &mut [u8; 1664]) -> Regs
+fn act<W: Write>(
+    to: &mut W,
+    script: &[u8],
+    at: usize,
+    r: Regs,
+    list: &mut [u16; 384],
+    fifo: &mut [u8; 1664],
+) -> io::Result<Regs>
     requires { (768 ≤ length script.now) × (at + 5 ≤ length script.now) }
 {
     let code = script[at];
     let e = script[at + 1];
     let v = wide(script[at + 2]) + 256 * wide(script[at + 3]);
     let from = wide(script[at + 4]) as usize;
-    let to = from + trace_text::least(v as usize, 512);
+    let past = from + trace_text::least(v as usize, 512);
     let q = begun(code, r);
     let b = q.board;
     let mut w = q.words;
-    packet(&mut w, code, e, &script[from..to], fifo);
+    packet(&mut w, code, e, &script[from..past], fifo);
     let number = word(&mut w, code);
-    put_first(&w, code, e, v, number, fifo);
+    put_first(to, &w, code, e, v, number, fifo)?;
     happened(&mut w, code, e);
     let n = changed(&mut w, list, code, e, v);
     let o = Regs { board: b, words: w };
-    put_details(o, list, n);
-    o
+    put_details(to, o, list, n)?;
+    Ok(o)
 }
 
-fn main() {
+fn main(rt: HostRuntime) -> io::Result<()> {
     let mut script = [0u8; 4096];
-    let n = io::read_full(0, &mut script);
+    let n = input::read_full(&mut rt.stdin(), &mut script)?;
     let mut list = [0u16; 384];
     let mut fifo = [0u8; 1664];
     let mut r = regs::fresh(Board::Display);
     let mut at = 768usize;
     while at + 5 <= n {
-        r = act(&script, at, r, &mut list, &mut fifo);
+        r = act(&mut rt.stdout(), &script, at, r, &mut list, &mut fifo)?;
         at += 5;
     }
+    Ok(())
 }

@@ -7,6 +7,12 @@
 
 ghost use Rattle.std.specs.Prelude.{◌+◌, ◌≤◌, ◌<◌, length};
 
+use std::env::{Env, FillError};
+use std::fs::File;
+use std::io;
+use std::io::Write;
+use std::rt::Files;
+
 const PLUS: u8 = 43;
 
 const EQUALS: u8 = 61;
@@ -24,30 +30,30 @@ fn length_at(s: &[u8], at: usize) -> usize
     wide(s[at]) + 256 * wide(s[at + 1]) + 65536 * wide(s[at + 2])
 }
 
-fn put_many(s: &[u8], detail: bool)
+fn put_many<W: Write>(to: &mut W, s: &[u8], detail: bool) -> io::Result<()>
     requires { length s.now < 65538 }
 {
     let mut at: usize = 0;
     while at + 4 <= s.len() {
         let start = at + 4;
         let n = trace_text::least(length_at(s, at), s.len() - start);
-        trace_reporter::put_fresh(&s[start..start + n], detail);
+        trace_reporter::put_fresh(to, &s[start..start + n], detail)?;
         at = start + n;
     }
+    Ok(())
 }
 
-fn put_by(mark: u8, s: &[u8])
+fn put_by<W: Write>(to: &mut W, mark: u8, s: &[u8]) -> io::Result<()>
     requires { length s.now < 65538 }
 {
     if mark == PLUS {
-        put_many(s, false);
-        return;
+        return put_many(to, s, false);
     }
     if mark == EQUALS {
-        put_many(s, true);
-        return;
+        return put_many(to, s, true);
     }
-    trace_reporter::put_fresh(s, false);
+    trace_reporter::put_fresh(to, s, false)?;
+    Ok(())
 }
 
 // Where the name begins.
@@ -63,26 +69,29 @@ fn start_of(mark: u8, n: usize) -> usize
     0
 }
 
-fn replay(i: usize) {
-    let mut path = io::buffer();
-    let n = os::arg(i, &mut path);
-    let mark = path[0];
-    let fd = os::open_read(&path[start_of(mark, n)..n]);
-    if fd < 0 {
-        io::write_all(1, b"missing\n");
-        return;
-    }
+// A name that is not text names no file.
+fn replay<R: Files, W: Write>(files: &R, to: &mut W, path: &[u8]) -> io::Result<()> {
+    let mark = if path.is_empty() { 0 } else { path[0] };
+    let Ok(name) = std::str::from_utf8(&path[start_of(mark, path.len())..]) else {
+        return to.write_all(b"missing\n");
+    };
+    let Ok(mut file) = File::open(files, name) else {
+        return to.write_all(b"missing\n");
+    };
     let mut trace = [0u8; 65537];
-    let k = io::read_full(fd, &mut trace);
-    libc::close(fd);
-    put_by(mark, &trace[..k]);
+    let n = input::read_full(&mut file, &mut trace)?;
+    put_by(to, mark, &trace[..n])
 }
 
-fn main() {
-    let n = os::arg_count();
-    let mut i = 1;
-    while i < n {
-        replay(i);
-        i += 1;
+// A name that the memory does not hold is longer than any file's.
+fn main(rt: HostRuntime) -> io::Result<()> {
+    for i in 1..usize::MAX {
+        let mut path = [0u8; 4096];
+        match rt.arg(i, &mut path) {
+            Ok(n) => replay(&rt, &mut rt.stdout(), &path[..n])?,
+            Err(FillError::TooLong) => rt.stdout().write_all(b"missing\n")?,
+            Err(FillError::NotPresent) => break,
+        }
     }
+    Ok(())
 }

@@ -10,154 +10,140 @@ ghost use Rattle.std.specs.Prelude.{◌≤◌};
 use board::Direction;
 use endpoints::{EndpointType, Wanted};
 use record::Record;
+use std::io;
+use std::io::Write;
 
-fn print(k: Record, list: &[u16], n: usize) {
+fn print<W: Write>(to: &mut W, k: Record, list: &[u16], n: usize) -> io::Result<()> {
     let mut line = [0u8; 4096];
     if list.len() < 384 {
-        return;
+        return Ok(());
     }
     if n > 128 {
-        return;
+        return Ok(());
     }
     let m = trace_details::stores_line(&mut line, list, n);
-    io::write_all(1, &line[..m]);
+    to.write_all(&line[..m])?;
     let r = trace_details::record_line(&mut line, k);
-    io::write_all(1, &line[..r]);
+    to.write_all(&line[..r])
 }
 
-fn polls(k: Record, twice: bool, list: &mut [u16]) {
+fn polls<W: Write>(to: &mut W, k: Record, twice: bool, list: &mut [u16]) -> io::Result<()> {
     let a = usb_device_poll::poll(k, list);
     if twice {
         let b = usb_device_poll::poll(k, list);
-        print(b.record, list, b.stores);
-        return;
+        return print(to, b.record, list, b.stores);
     }
-    print(a.record, list, a.stores);
+    print(to, a.record, list, a.stores)
 }
 
-fn writes(k: Record, ep: u8, twice: bool, n: usize, fifo: &mut [u8], list: &mut [u16])
+fn writes<W: Write>(to: &mut W, k: Record, ep: u8, twice: bool, n: usize, fifo: &mut [u8], list: &mut [u16]) -> io::Result<()>
     requires { n ≤ 512 }
 {
     let packet = [7u8; 512];
     let a = usb_device_write::write(k, ep, &packet[..n], fifo, list);
     if twice {
         let b = usb_device_write::write(k, ep, &packet[..n], fifo, list);
-        print(b.record, list, b.stores);
-        return;
+        return print(to, b.record, list, b.stores);
     }
-    print(a.record, list, a.stores);
+    print(to, a.record, list, a.stores)
 }
 
-fn reads(k: Record, ep: u8, twice: bool, fifo: &[u8], list: &mut [u16]) {
+fn reads<W: Write>(to: &mut W, k: Record, ep: u8, twice: bool, fifo: &[u8], list: &mut [u16]) -> io::Result<()> {
     let mut packet = [0u8; 512];
     let a = usb_device_read::read(k, ep, &mut packet, fifo, list);
     if twice {
         let b = usb_device_read::read(k, ep, &mut packet, fifo, list);
-        print(b.record, list, b.stores);
-        return;
+        return print(to, b.record, list, b.stores);
     }
-    print(a.record, list, a.stores);
+    print(to, a.record, list, a.stores)
 }
 
 // The host's event: it lists no store, and the original has no such call.
-fn arrivals(k: Record, ep: u8, twice: bool, n: usize, fifo: &mut [u8], list: &[u16])
+fn arrivals<W: Write>(to: &mut W, k: Record, ep: u8, twice: bool, n: usize, fifo: &mut [u8], list: &[u16]) -> io::Result<()>
     requires { n ≤ 512 }
 {
     let packet = [7u8; 512];
     let a = host::arrival(k, ep, &packet[..n], fifo);
     if twice {
         let b = host::arrival(k, ep, &packet[..n], fifo);
-        print(b.record, list, 0);
-        return;
+        return print(to, b.record, list, 0);
     }
-    print(a.record, list, 0);
+    print(to, a.record, list, 0)
 }
 
-fn interrupts(k: Record, twice: bool, list: &[u16]) {
+fn interrupts<W: Write>(to: &mut W, k: Record, twice: bool, list: &[u16]) -> io::Result<()> {
     let a = usb_device_interrupt::on_interrupt(k);
     if twice {
         let b = usb_device_interrupt::on_interrupt(k);
-        print(b.record, list, 0);
-        return;
+        return print(to, b.record, list, 0);
     }
-    print(a.record, list, 0);
+    print(to, a.record, list, 0)
 }
 
-fn resets(k: Record, twice: bool, list: &mut [u16]) {
+fn resets<W: Write>(to: &mut W, k: Record, twice: bool, list: &mut [u16]) -> io::Result<()> {
     let a = usb_device_reset::reset(k, list);
     if twice {
         let b = usb_device_reset::reset(k, list);
-        print(b.record, list, b.stores);
-        return;
+        return print(to, b.record, list, b.stores);
     }
-    print(a.record, list, a.stores);
+    print(to, a.record, list, a.stores)
 }
 
-fn allocations(k: Record, twice: bool, list: &[u16]) {
+fn allocations<W: Write>(to: &mut W, k: Record, twice: bool, list: &[u16]) -> io::Result<()> {
     let a = usb_device_alloc::alloc_ep(k, Direction::Out, Wanted::Any, EndpointType::Bulk, 64);
     if twice {
         let b = usb_device_alloc::alloc_ep(k, Direction::Out, Wanted::Any, EndpointType::Bulk, 64);
-        print(b.record, list, 0);
-        return;
+        return print(to, b.record, list, 0);
     }
-    print(a.record, list, 0);
+    print(to, a.record, list, 0)
 }
 
 // a, b: poll; c: interrupt; d: reset; e: an endpoint asked for with no number; f, g, h: write of 8, 64 and 512 bytes; i, j, k: read;
 // l, m, n: arrival of 8, 64 and 512 bytes.
-fn run(case: u8, k: Record, ep: u8, twice: bool, fifo: &mut [u8], list: &mut [u16]) {
+fn run<W: Write>(to: &mut W, case: u8, k: Record, ep: u8, twice: bool, fifo: &mut [u8], list: &mut [u16]) -> io::Result<()> {
     if case <= b'b' {
-        polls(k, twice, list);
-        return;
+        return polls(to, k, twice, list);
     }
     if case == b'c' {
-        interrupts(k, twice, list);
-        return;
+        return interrupts(to, k, twice, list);
     }
     if case == b'd' {
-        resets(k, twice, list);
-        return;
+        return resets(to, k, twice, list);
     }
     if case == b'e' {
-        allocations(k, twice, list);
-        return;
+        return allocations(to, k, twice, list);
     }
     if case == b'f' {
-        writes(k, ep, twice, 8, fifo, list);
-        return;
+        return writes(to, k, ep, twice, 8, fifo, list);
     }
     if case == b'g' {
-        writes(k, ep, twice, 64, fifo, list);
-        return;
+        return writes(to, k, ep, twice, 64, fifo, list);
     }
     if case == b'h' {
-        writes(k, ep, twice, 512, fifo, list);
-        return;
+        return writes(to, k, ep, twice, 512, fifo, list);
     }
     if case <= b'k' {
-        reads(k, ep, twice, fifo, list);
-        return;
+        return reads(to, k, ep, twice, fifo, list);
     }
     if case == b'l' {
-        arrivals(k, ep, twice, 8, fifo, list);
-        return;
+        return arrivals(to, k, ep, twice, 8, fifo, list);
     }
     if case == b'm' {
-        arrivals(k, ep, twice, 64, fifo, list);
-        return;
+        return arrivals(to, k, ep, twice, 64, fifo, list);
     }
-    arrivals(k, ep, twice, 512, fifo, list);
+    arrivals(to, k, ep, twice, 512, fifo, list)
 }
 
-fn main() {
+fn main(rt: HostRuntime) -> io::Result<()> {
     let mut list = [0u16; 384];
     let mut fifo = [0u8; 1664];
     let mut words = [0u8; 3];
     let mut head = [0u8; 384];
-    io::read_full(0, &mut words);
-    io::read_full(0, &mut head);
+    let mut from = rt.stdin();
+    input::read_full(&mut from, &mut words)?;
+    input::read_full(&mut from, &mut head)?;
     let k = trace_given::record_from(&head);
     let twice = words[1] == b'2';
     let ep = words[2] % 16;
-    run(words[0], k, ep, twice, &mut fifo, &mut list);
+    run(&mut rt.stdout(), words[0], k, ep, twice, &mut fifo, &mut list)
 }

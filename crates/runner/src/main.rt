@@ -7,6 +7,10 @@
 
 #![tactic(auto)]
 
+use std::env::{Env, FillError};
+use std::io;
+use std::io::{Read, Write};
+
 #[derive(Clone, Copy)]
 struct Asked {
     detail: bool,
@@ -16,61 +20,60 @@ struct Asked {
 
 fn word(a: Asked, w: &[u8]) -> Asked {
     let mut o = a;
-    if check::same(w, b"detail") {
-        o.detail = true;
-        return o;
+    match w {
+        b"detail" => o.detail = true,
+        b"given" => o.given = true,
+        b"display" => {}
+        _ => o.known = false,
     }
-    if check::same(w, b"given") {
-        o.given = true;
-        return o;
-    }
-    o.known = a.known & check::same(w, b"display");
     o
 }
 
-fn words() -> Asked {
+// A word that the memory does not hold is none of the three.
+fn words(env: &impl Env) -> Asked {
     let mut a = Asked {
         detail: false,
         given: false,
         known: true,
     };
-    let n = os::arg_count();
-    let mut i = 1;
-    while i < n {
-        let mut w = io::buffer();
-        let m = os::arg(i, &mut w);
-        a = word(a, &w[..m]);
-        i += 1;
+    for i in 1..usize::MAX {
+        let mut w = [0u8; 4096];
+        match env.arg(i, &mut w) {
+            Ok(n) => a = word(a, &w[..n]),
+            Err(FillError::TooLong) => a.known = false,
+            Err(FillError::NotPresent) => break,
+        }
     }
     a
 }
 
 // One byte more than document 01 allows is read, so that a trace that is too long is seen to be so.
-fn report_given(detail: bool) {
+fn report_given<R: Read, W: Write>(from: &mut R, to: &mut W, detail: bool) -> io::Result<()> {
     let mut head = [0u8; 384];
     let mut fifo = [0u8; 1664];
     let mut trace = [0u8; 65537];
-    io::read_full(0, &mut head);
-    io::read_full(0, &mut fifo);
-    let n = io::read_full(0, &mut trace);
-    trace_reporter::put_report(&trace[..n], detail, trace_given::record_from(&head), fifo);
+    input::read_full(from, &mut head)?;
+    input::read_full(from, &mut fifo)?;
+    let n = input::read_full(from, &mut trace)?;
+    let start = trace_given::record_from(&head);
+    trace_reporter::put_report(to, &trace[..n], detail, start, fifo)?;
+    Ok(())
 }
 
-fn report_fresh(detail: bool) {
+fn report_fresh<R: Read, W: Write>(from: &mut R, to: &mut W, detail: bool) -> io::Result<()> {
     let mut trace = [0u8; 65537];
-    let n = io::read_full(0, &mut trace);
-    trace_reporter::put_fresh(&trace[..n], detail);
+    let n = input::read_full(from, &mut trace)?;
+    trace_reporter::put_fresh(to, &trace[..n], detail)?;
+    Ok(())
 }
 
-fn main() {
-    let a = words();
+fn main(rt: HostRuntime) -> io::Result<()> {
+    let a = words(&rt);
     if !a.known {
-        io::write_all(2, b"runner: the words are display, detail and given\n");
-        return;
+        return rt.eprintln("runner: the words are display, detail and given");
     }
     if a.given {
-        report_given(a.detail);
-        return;
+        return report_given(&mut rt.stdin(), &mut rt.stdout(), a.detail);
     }
-    report_fresh(a.detail);
+    report_fresh(&mut rt.stdin(), &mut rt.stdout(), a.detail)
 }

@@ -1,19 +1,23 @@
-// Writes the report of a trace to standard output, a line at a time: the same memory for every trace.
+// Writes the report of a trace to a writer, a line at a time: the same memory for every trace.
 // Document 01: `musb-trace 1`, a line for each entry, and the last line.
 
 #![tactic(auto)]
 
-ghost use Rattle.std.specs.Prelude.{◌≡◌, true, ◌+◌, ◌≤◌, length, take, replicate};
+ghost use Rattle.std.specs.Prelude.{◌≡◌, false, true, ◌+◌, ◌≤◌, length, take, replicate, [], IfOk, OnOk};
+ghost use Rattle.std.specs.Io.KnownBytes.{Appends};
 ghost use Rattle.board.specs.declared.Board.TheVariants.{Display};
 ghost use Rattle.record.specs.Record.{fresh_record};
 ghost use Rattle.trace_rules.specs.Lines.{header, last_line};
 ghost use Rattle.report_rules.specs.Report.{beginning, report_for, report_of};
 ghost use Rattle.report_rules.specs.Runs.{Has, Completes};
+ghost use Rattle.trace_reporter.specs.Told.{Told};
 ghost use Rattle.trace_reporter.specs.Under.{Under};
 
 use board::Board;
 use record::Record;
 use report_rules::Came;
+use std::io;
+use std::io::Write;
 
 fn store_list() -> [u16; 384]
     ensures { result ≡ replicate 384 0 }
@@ -30,17 +34,27 @@ fn line_buffer() -> [u8; 8192]
 
 // The report's only way out: the bytes are those that the report has at the place `done`, and the place moves past them. One place goes through
 // all calls, from 0 to the report's length (`put_report`): the report's bytes in their order. That nothing else moves the place is to be seen here.
-// What a call of the system then writes no contract can say.
-fn put(trace: &[u8], k: Record, first: &[u8; 1664], done: &mut usize, line: &[u8], len: usize)
+// A writer whose bytes are known has then got just these. What a call of the system writes no contract can say.
+fn put<W: Write>(
+    to: &mut W,
+    trace: &[u8],
+    k: Record,
+    first: &[u8; 1664],
+    done: &mut usize,
+    line: &[u8],
+    len: usize,
+) -> io::Result<()>
     requires { (len ≤ length line.now) × (done.old + len ≤ 1000000000) × Has (beginning k first.now) trace.now done.old (take len line.now) }
-    ensures { done.new ≡ done.old + len }
+    ensures place { done.new ≡ done.old + len }
+    ensures told { OnOk result (Told (beginning k first.now) trace.now (W.contents to.old) (W.contents to.new) done.old done.new) }
 {
-    io::write_all(1, &line[..len]);
     *done += len;
+    to.write_all(&line[..len])
 }
 
 // The last line, a word and a number: it ends the report from the record k and the FIFO memory that stood there at first.
-fn put_last(
+fn put_last<W: Write>(
+    to: &mut W,
     trace: &[u8],
     k: Record,
     first: &[u8; 1664],
@@ -48,39 +62,65 @@ fn put_last(
     line: &mut [u8],
     word: &[u8; 3],
     n: u32,
-)
+) -> io::Result<()>
     requires { (8192 ≤ length line.old) × (done.old ≤ 900000000) × Completes (beginning k first.now) trace.now done.old (last_line word.now n) }
-    ensures { done.new ≡ length (report_for (beginning k first.now) trace.now) }
+    ensures place { done.new ≡ length (report_for (beginning k first.now) trace.now) }
+    ensures told { OnOk result (Told (beginning k first.now) trace.now (W.contents to.old) (W.contents to.new) done.old done.new) }
 {
     let len = trace_report::last_line(line, word, n);
-    put(trace, k, first, done, line, len);
+    put(to, trace, k, first, done, line, len)
 }
 
 // A line under an entry's line, only where it is asked for: the entry's stores, or the record after it.
-fn put_under(detail: bool, list: &[u16], stores: usize, k: Record, line: &[u8], len: usize)
+fn put_under<W: Write>(
+    to: &mut W,
+    detail: bool,
+    list: &[u16],
+    stores: usize,
+    k: Record,
+    line: &[u8],
+    len: usize,
+) -> io::Result<()>
     requires { (detail ≡ true) × (len ≤ length line.now) × Under list.now stores k (take len line.now) }
+    ensures { OnOk result (Appends (W.contents to.old) (W.contents to.new) (take len line.now)) }
 {
-    io::write_all(1, &line[..len]);
+    to.write_all(&line[..len])
 }
 
 // Both lines, for comparing with the original. The list holds 128 stores.
-fn put_details(detail: bool, list: &[u16], stores: usize, k: Record, line: &mut [u8])
+fn put_details<W: Write>(
+    to: &mut W,
+    detail: bool,
+    list: &[u16],
+    stores: usize,
+    k: Record,
+    line: &mut [u8],
+) -> io::Result<()>
     requires { (384 ≤ length list.now) × (8192 ≤ length line.old) }
+    ensures { detail ≡ false → Appends (W.contents to.old) (W.contents to.new) [] }
 {
     if !detail {
-        return;
+        return Ok(());
     }
     let n = trace_text::least(stores, 128);
     let a = trace_details::stores_line(line, list, n);
-    put_under(detail, list, n, k, line, a);
+    put_under(to, detail, list, n, k, line, a)?;
     let b = trace_details::record_line(line, k);
-    put_under(detail, list, n, k, line, b);
+    put_under(to, detail, list, n, k, line, b)
 }
 
 // The entries of a trace that is not too long, each with its line, and the last line. The header is written.
-fn put_entries(trace: &[u8], detail: bool, start: Record, first: [u8; 1664], done: &mut usize)
+fn put_entries<W: Write>(
+    to: &mut W,
+    trace: &[u8],
+    detail: bool,
+    start: Record,
+    first: [u8; 1664],
+    done: &mut usize,
+) -> io::Result<()>
     requires { (length trace.now ≤ 65536) × (done.old ≡ length header) }
-    ensures { done.new ≡ length (report_for (beginning start first) trace.now) }
+    ensures place { OnOk result (done.new ≡ length (report_for (beginning start first) trace.now)) }
+    ensures told { detail ≡ false → OnOk result (Told (beginning start first) trace.now (W.contents to.old) (W.contents to.new) done.old done.new) }
 {
     let mut k = start;
     let mut fifo = first;
@@ -93,44 +133,50 @@ fn put_entries(trace: &[u8], detail: bool, start: Record, first: [u8; 1664], don
         let c = r.came;
         match c {
             Came::Line(len, past) => {
-                put(trace, start, &first, done, &line, len);
+                put(to, trace, start, &first, done, &line, len)?;
                 k = r.record;
-                put_details(detail, &list, r.stores, k, &mut line);
+                put_details(to, detail, &list, r.stores, k, &mut line)?;
                 at = past;
                 count += 1;
             }
             Came::End => {
-                put_last(trace, start, &first, done, &mut line, b"end", count);
-                return;
+                return put_last(to, trace, start, &first, done, &mut line, b"end", count);
             }
             Came::Bad => {
-                put_last(trace, start, &first, done, &mut line, b"bad", at as u32);
-                return;
+                return put_last(to, trace, start, &first, done, &mut line, b"bad", at as u32);
             }
         }
     }
 }
 
 // The report of a trace that begins with a record and FIFO memory; with `detail`, its stores and the record under each entry's line. It gives
-// the report's length, all of which it has written.
-pub fn put_report(trace: &[u8], detail: bool, start: Record, first: [u8; 1664]) -> usize
-    ensures { result ≡ length (report_for (beginning start first) trace.now) }
+// the report's length, all of which it has written; an error is the writer's.
+pub fn put_report<W: Write>(
+    to: &mut W,
+    trace: &[u8],
+    detail: bool,
+    start: Record,
+    first: [u8; 1664],
+) -> io::Result<usize>
+    ensures count { IfOk result (λ n. n ≡ length (report_for (beginning start first) trace.now)) }
+    ensures written { detail ≡ false → OnOk result (Appends (W.contents to.old) (W.contents to.new) (report_for (beginning start first) trace.now)) }
 {
     let mut line = line_buffer();
     let mut done: usize = 0;
     let len = trace_report::header_line(&mut line);
-    put(trace, start, &first, &mut done, &line, len);
+    put(to, trace, start, &first, &mut done, &line, len)?;
     if 65536 < trace.len() {
-        put_last(trace, start, &first, &mut done, &mut line, b"bad", 65536);
-        return done;
+        put_last(to, trace, start, &first, &mut done, &mut line, b"bad", 65536)?;
+        return Ok(done);
     }
-    put_entries(trace, detail, start, first, &mut done);
-    done
+    put_entries(to, trace, detail, start, first, &mut done)?;
+    Ok(done)
 }
 
 // The same of a fresh display.
-pub fn put_fresh(trace: &[u8], detail: bool) -> usize
-    ensures { result ≡ length (report_of (fresh_record Display) trace.now) }
+pub fn put_fresh<W: Write>(to: &mut W, trace: &[u8], detail: bool) -> io::Result<usize>
+    ensures count { IfOk result (λ n. n ≡ length (report_of (fresh_record Display) trace.now)) }
+    ensures written { detail ≡ false → OnOk result (Appends (W.contents to.old) (W.contents to.new) (report_of (fresh_record Display) trace.now)) }
 {
-    put_report(trace, detail, record_ops::fresh(Board::Display), [0; 1664])
+    put_report(to, trace, detail, record_ops::fresh(Board::Display), [0; 1664])
 }
