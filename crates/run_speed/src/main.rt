@@ -36,7 +36,15 @@ fn polls<W: Write>(to: &mut W, k: Record, twice: bool, list: &mut [u16]) -> io::
     print(to, a.record, list, a.stores)
 }
 
-fn writes<W: Write>(to: &mut W, k: Record, ep: u8, twice: bool, n: usize, fifo: &mut [u8], list: &mut [u16]) -> io::Result<()>
+fn writes<W: Write>(
+    to: &mut W,
+    k: Record,
+    ep: u8,
+    twice: bool,
+    n: usize,
+    fifo: &mut [u8],
+    list: &mut [u16],
+) -> io::Result<()>
     requires { n ≤ 512 }
 {
     let packet = [7u8; 512];
@@ -48,7 +56,14 @@ fn writes<W: Write>(to: &mut W, k: Record, ep: u8, twice: bool, n: usize, fifo: 
     print(to, a.record, list, a.stores)
 }
 
-fn reads<W: Write>(to: &mut W, k: Record, ep: u8, twice: bool, fifo: &[u8], list: &mut [u16]) -> io::Result<()> {
+fn reads<W: Write>(
+    to: &mut W,
+    k: Record,
+    ep: u8,
+    twice: bool,
+    fifo: &[u8],
+    list: &mut [u16],
+) -> io::Result<()> {
     let mut packet = [0u8; 512];
     let a = usb_device_read::read(k, ep, &mut packet, fifo, list);
     if twice {
@@ -59,7 +74,15 @@ fn reads<W: Write>(to: &mut W, k: Record, ep: u8, twice: bool, fifo: &[u8], list
 }
 
 // The host's event: it lists no store, and the original has no such call.
-fn arrivals<W: Write>(to: &mut W, k: Record, ep: u8, twice: bool, n: usize, fifo: &mut [u8], list: &[u16]) -> io::Result<()>
+fn arrivals<W: Write>(
+    to: &mut W,
+    k: Record,
+    ep: u8,
+    twice: bool,
+    n: usize,
+    fifo: &mut [u8],
+    list: &[u16],
+) -> io::Result<()>
     requires { n ≤ 512 }
 {
     let packet = [7u8; 512];
@@ -100,7 +123,15 @@ fn allocations<W: Write>(to: &mut W, k: Record, twice: bool, list: &[u16]) -> io
 
 // a, b: poll; c: interrupt; d: reset; e: an endpoint asked for with no number; f, g, h: write of 8, 64 and 512 bytes; i, j, k: read;
 // l, m, n: arrival of 8, 64 and 512 bytes.
-fn run<W: Write>(to: &mut W, case: u8, k: Record, ep: u8, twice: bool, fifo: &mut [u8], list: &mut [u16]) -> io::Result<()> {
+fn run<W: Write>(
+    to: &mut W,
+    case: u8,
+    k: Record,
+    ep: u8,
+    twice: bool,
+    fifo: &mut [u8],
+    list: &mut [u16],
+) -> io::Result<()> {
     if case <= b'b' {
         return polls(to, k, twice, list);
     }
@@ -145,5 +176,13 @@ fn main(rt: HostRuntime) -> io::Result<()> {
     let k = trace_given::record_from(&head);
     let twice = words[1] == b'2';
     let ep = words[2] % 16;
-    run(&mut rt.stdout(), words[0], k, ep, twice, &mut fifo, &mut list)
+    run(
+        &mut rt.stdout(),
+        words[0],
+        k,
+        ep,
+        twice,
+        &mut fifo,
+        &mut list,
+    )
 }
