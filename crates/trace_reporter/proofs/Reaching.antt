@@ -1,12 +1,15 @@
 -- What the loop over the entries has reached, from step to step.
 -- Assumes nothing.
-use Prim.Native.Nat.{ℕ, ◌+◌, ◌*◌, ◌≤◌, ◌<◌}
+use Prim.Native.Nat.{ℕ, ◌+◌, ◌-◌, ◌*◌, ◌≤◌, ◌<◌}
 use native.Mathlib.Omega.{arith}
 use native.Mathlib.Numerals.{add-one}
 use mathlib.Core.Path.{◌≡◌, sym, ap, subst, ◌∙◌}
 use mathlib.Core.List.{List, [], ◌++◌, append-nil}
-use lib.ListN.{length, take, replicate, length-append}
-use lib.Seq.{length-take-le}
+use lib.ListN.{length, take, drop, replicate, length-append}
+use lib.Seq.{length-take-le, take-add, drop-drop}
+use Rattle.std.specs.Prelude.{Option, slice_range}
+use Rattle.std.specs.Io.KnownBytes.{Appends}
+use Rattle.std.proofs.KnownBytes.{Appends-nil, Appends-trans}
 use Rattle.board.specs.declared.Board.{Board}
 use Rattle.board.specs.declared.Board.TheVariants.{Display}
 use Rattle.board.specs.Table.{total}
@@ -25,6 +28,7 @@ use Rattle.report_rules.specs.declared.Stepped.{Stepped}
 use Rattle.report_rules.specs.Report.{report_for, report_of, stepped, step_of, beginning, begun, Moves}
 use Rattle.report_rules.specs.Runs.{Took, Reached, begins, goes, Has, Completes}
 use Rattle.report_rules.proofs.Whole as whole
+use Rattle.trace_reporter.specs.Told.{Told}
 
 -- the display's FIFO memory: a fresh display begins as `begun` says
 need : need_of (fresh_record Display) ≡ 1664
@@ -91,5 +95,27 @@ too_long_here x s {done = done} w e h =
     let d : length header ≡ done = omega (arith, e, w.count) in
     subst (λ (n : ℕ). Completes x s n (bad_line 65536)) d (whole.too_long x s h)
 
-pub fresh_whole : (k : Record) (s : List ℕ) {r : ℕ} → k ≡ fresh_record Display → r ≡ length (report_for (beginning k (replicate 1664 0)) s) → r ≡ length (report_of (fresh_record Display) s)
-fresh_whole k s e p = p ∙ ap (λ (j : Record). length (report_for (beginning j (replicate 1664 0)) s)) e ∙ ap (λ (x : State). length (report_for x s)) fresh_begins
+-- the report of a trace from a fresh display on
+pub fresh_report : (k : Record) (s : List ℕ) → k ≡ fresh_record Display → report_for (beginning k (replicate 1664 0)) s ≡ report_of (fresh_record Display) s
+fresh_report k s e = ap (λ (j : Record). report_for (beginning j (replicate 1664 0)) s) e ∙ ap (λ (x : State). report_for x s) fresh_begins
+
+-- one part of a report and the next one
+joined : (r : List ℕ) (i j k : ℕ) → i ≤ j → j ≤ k → slice_range r i j ++ slice_range r j k ≡ slice_range r i k
+joined r i j k p q =
+    let parts : k - i ≡ (j - i) + (k - j) = omega arith in
+    let place : i + (j - i) ≡ j = omega arith in
+    let rest : drop (j - i) (drop i r) ≡ drop j r = drop-drop (j - i) i r ∙ ap (λ (n : ℕ). drop n r) place in
+    sym (ap (λ (n : ℕ). take n (drop i r)) parts ∙ take-add (j - i) (k - j) (drop i r) ∙ ap (λ (t : List ℕ). take (j - i) (drop i r) ++ take (k - j) t) rest)
+
+pub told_nothing : (x : State) (s : List ℕ) (a : Option (List ℕ)) (i : ℕ) → Told x s a a i i
+told_nothing x s a i =
+    let none : i - i ≡ 0 = omega arith in
+    subst (Appends a a) (sym (ap (λ (n : ℕ). take n (drop i (report_for x s))) none)) (Appends-nil a)
+
+-- what has been told up to a place, and from there on
+pub told_on : (x : State) (s : List ℕ) (a b c : Option (List ℕ)) (i j k : ℕ) → i ≤ j → j ≤ k → Told x s a b i j → Told x s b c j k → Told x s a c i k
+told_on x s a b c i j k p q t u = subst (Appends a c) (joined (report_for x s) i j k p q) (Appends-trans a b c _ _ t u)
+
+-- a line under an entry's, where none is asked for, tells nothing
+pub told_no_more : (x : State) (s : List ℕ) (a b c : Option (List ℕ)) (i j : ℕ) → Told x s a b i j → Appends b c [] → Told x s a c i j
+told_no_more x s a b c i j t u = subst (Appends a c) (append-nil (slice_range (report_for x s) i j)) (Appends-trans a b c _ _ t u)

@@ -166,7 +166,9 @@ pub fn put_report<W: Write>(
     let len = trace_report::header_line(&mut line);
     put(to, trace, start, &first, &mut done, &line, len)?;
     if 65536 < trace.len() {
-        put_last(to, trace, start, &first, &mut done, &mut line, b"bad", 65536)?;
+        put_last(
+            to, trace, start, &first, &mut done, &mut line, b"bad", 65536,
+        )?;
         return Ok(done);
     }
     put_entries(to, trace, detail, start, first, &mut done)?;
@@ -178,5 +180,11 @@ pub fn put_fresh<W: Write>(to: &mut W, trace: &[u8], detail: bool) -> io::Result
     ensures count { IfOk result (λ n. n ≡ length (report_of (fresh_record Display) trace.now)) }
     ensures written { detail ≡ false → OnOk result (Appends (W.contents to.old) (W.contents to.new) (report_of (fresh_record Display) trace.now)) }
 {
-    put_report(to, trace, detail, record_ops::fresh(Board::Display), [0; 1664])
+    put_report(
+        to,
+        trace,
+        detail,
+        record_ops::fresh(Board::Display),
+        [0; 1664],
+    )
 }

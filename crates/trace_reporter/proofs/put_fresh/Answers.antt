@@ -1,0 +1,17 @@
+-- `trace_reporter::put_fresh` meets its contract.
+-- Assumes nothing.
+use Prim.Native.Nat.{ℕ}
+use mathlib.Core.Path.{◌≡◌, subst}
+use mathlib.Core.List.{List}
+use lib.ListN.{length}
+use Rattle.std.specs.Prelude.{IfOk}
+use Rattle.std.specs.Io.KnownBytes.{Appends}
+use Rattle.std.proofs.lemmas.Result.{on_ok_weaker}
+use Rattle.trace_reporter.proofs.Reaching.{fresh_report}
+use Rattle.trace_reporter.proofs.put_fresh.Goals as goal
+
+pub returns-clause-count : goal.returns-clause-count
+returns-clause-count g c = subst (λ (t : List ℕ). IfOk c.put_report.result (λ n. n ≡ length t)) (fresh_report _ c.args.trace.now c.fresh.ensures) c.put_report.ensures.count
+
+pub returns-clause-written : goal.returns-clause-written
+returns-clause-written g c = λ d. on_ok_weaker _ (subst (Appends _ _) (fresh_report _ c.args.trace.now c.fresh.ensures)) (c.put_report.ensures.written d)

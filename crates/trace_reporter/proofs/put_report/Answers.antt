@@ -1,0 +1,19 @@
+-- `trace_reporter::put_report` meets its contract.
+-- Assumes nothing.
+use native.Mathlib.Omega.{arith}
+use borrow.Author.Rules.{rules}
+use Rattle.trace_rules.specs.Lines.{bad_line}
+use Rattle.report_rules.proofs.Whole.{begins_with}
+use Rattle.trace_reporter.proofs.Reaching.{from_front, too_long_here}
+use Rattle.trace_reporter.proofs.put_report.Goals as goal
+
+pub put-requires : goal.put-requires
+put-requires g c =
+    let e = c.header_line-len.ensures in
+    (search rules, omega (arith, e.upper_bound), from_front _ _ _ e.wrote (omega (arith, e.upper_bound, c.line_buffer-line.ensures)) (begins_with _ _))
+
+pub put_last-requires : goal.put_last-requires
+unfolding bad_line
+put_last-requires g c =
+    let e = c.header_line-len.ensures in
+    (search rules, omega (arith, e.upper_bound, c.put.ensures.place), too_long_here _ _ e.wrote c.put.ensures.place c.if-trace-gt65536.true)
