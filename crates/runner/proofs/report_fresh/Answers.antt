@@ -1,0 +1,14 @@
+-- `runner::report_fresh` meets its contract.
+-- Assumes nothing.
+use native.Mathlib.Omega.{arith}
+use borrow.Author.Rules.{rules}
+use Rattle.board.specs.declared.Board.TheVariants.{Display}
+use Rattle.record.specs.Record.{fresh_record}
+use Rattle.report_rules.specs.Report.{begun}
+use Rattle.runner.proofs.Reading.{of_all}
+use Rattle.runner.proofs.report_fresh.Goals as goal
+
+pub returns : goal.returns
+returns g c =
+    let e = c.in_ok-n.ensures in
+    λ d. of_all (begun (fresh_record Display)) _ _ _ _ c.read_full.new.into _ c.in_ok-n.n (record { takes = e.bytes; count = e.bound.1; end = e.end }) (omega arith) (search rules) (c.in_ok-put_fresh.ensures.written d)
