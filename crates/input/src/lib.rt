@@ -10,6 +10,7 @@ use std::io;
 use std::io::Read;
 
 // Reads until the memory is full or the input ends, and gives how many bytes it has put to the front.
+// After an error the front may be overwritten, and how much was read is not known.
 pub fn read_full<R: Read>(from: &mut R, into: &mut [u8]) -> io::Result<usize>
     ensures bound { ReadsAtMost result into.new }
     ensures bytes { IfOk result (λ n. Consumes (R.remaining from.old) (R.remaining from.new) (take n into.new)) }

@@ -2,13 +2,15 @@
 -- Assumes nothing.
 use Prim.Native.Nat.{ℕ, ◌+◌, ◌-◌, ◌*◌, ◌≤◌, ◌<◌}
 use native.Mathlib.Omega.{arith}
+use native.Mathlib.Decide.{dec_lt}
 use native.Mathlib.Numerals.{add-one}
 use mathlib.Core.Path.{◌≡◌, sym, ap, subst, ◌∙◌}
 use mathlib.Core.List.{List, [], ◌++◌, append-nil}
 use lib.ListN.{length, take, drop, replicate, length-append}
-use lib.Seq.{length-take-le, take-add, drop-drop}
-use Rattle.std.specs.Prelude.{Option, slice_range}
+use lib.Seq.{length-take-le, take-add, take_all, drop-drop}
+use Rattle.std.specs.Prelude.{Option, Result, Ok, Err, OnErr, slice_range}
 use Rattle.std.specs.Io.KnownBytes.{Appends}
+use Rattle.std.proofs.lemmas.List.{take_rest}
 use Rattle.std.proofs.KnownBytes.{Appends-nil, Appends-trans}
 use Rattle.board.specs.declared.Board.{Board}
 use Rattle.board.specs.declared.Board.TheVariants.{Display}
@@ -28,7 +30,7 @@ use Rattle.report_rules.specs.declared.Stepped.{Stepped}
 use Rattle.report_rules.specs.Report.{report_for, report_of, stepped, step_of, beginning, begun, Moves}
 use Rattle.report_rules.specs.Runs.{Took, Reached, begins, goes, Has, Completes}
 use Rattle.report_rules.proofs.Whole as whole
-use Rattle.trace_reporter.specs.Told.{Told}
+use Rattle.trace_reporter.specs.Told.{Told, AppendsFront, LeftAt}
 
 -- the display's FIFO memory: a fresh display begins as `begun` says
 need : need_of (fresh_record Display) ≡ 1664
@@ -99,6 +101,9 @@ too_long_here x s {done = done} w e h =
 pub fresh_report : (k : Record) (s : List ℕ) → k ≡ fresh_record Display → report_for (beginning k (replicate 1664 0)) s ≡ report_of (fresh_record Display) s
 fresh_report k s e = ap (λ (j : Record). report_for (beginning j (replicate 1664 0)) s) e ∙ ap (λ (x : State). report_for x s) fresh_begins
 
+pub fresh_whole : (k : Record) (s : List ℕ) {r : ℕ} → k ≡ fresh_record Display → r ≡ length (report_for (beginning k (replicate 1664 0)) s) → r ≡ length (report_of (fresh_record Display) s)
+fresh_whole k s e p = p ∙ ap length (fresh_report k s e)
+
 -- one part of a report and the next one
 joined : (r : List ℕ) (i j k : ℕ) → i ≤ j → j ≤ k → slice_range r i j ++ slice_range r j k ≡ slice_range r i k
 joined r i j k p q =
@@ -119,3 +124,36 @@ told_on x s a b c i j k p q t u = subst (Appends a c) (joined (report_for x s) i
 -- a line under an entry's, where none is asked for, tells nothing
 pub told_no_more : (x : State) (s : List ℕ) (a b c : Option (List ℕ)) (i j : ℕ) → Told x s a b i j → Appends b c [] → Told x s a c i j
 told_no_more x s a b c i j t u = subst (Appends a c) (append-nil (slice_range (report_for x s) i j)) (Appends-trans a b c _ _ t u)
+
+-- a front part with a count that may be beyond the end
+front_part : (a b : Option (List ℕ)) (bs : List ℕ) (k : ℕ) → Appends a b (take k bs) → AppendsFront a b bs
+front_part a b bs k t = go (dec_lt k (length bs))
+  where
+    go : Dec (k < length bs) → AppendsFront a b bs
+    go (yes h) = (k, omega (arith, h), t)
+    go (no h) = (length bs, omega arith, subst (Appends a b) (take_all k bs (omega (arith, h)) ∙ sym (take_all (length bs) bs (omega arith))) t)
+
+-- what has been told up to a place is left
+pub told_is_left : (x : State) (s : List ℕ) (a b : Option (List ℕ)) (i j : ℕ) → Told x s a b i j → LeftAt x s a b i
+told_is_left x s a b i j t = front_part a b (drop i (report_for x s)) (j - i) t
+
+-- .. and what was left from there on
+pub left_on : (x : State) (s : List ℕ) (a b c : Option (List ℕ)) (i j : ℕ) → i ≤ j → Told x s a b i j → LeftAt x s b c j → LeftAt x s a c i
+left_on x s a b c i j p t (k, h, u) =
+    let r = report_for x s in
+    let place : i + (j - i) ≡ j = omega arith in
+    let rest : drop (j - i) (drop i r) ≡ drop j r = drop-drop (j - i) i r ∙ ap (λ (n : ℕ). drop n r) place in
+    let both : take (j - i) (drop i r) ++ take k (drop j r) ≡ take ((j - i) + k) (drop i r) =
+    sym (take-add (j - i) k (drop i r) ∙ ap (λ (l : List ℕ). take (j - i) (drop i r) ++ take k l) rest) in
+    front_part a c (drop i r) ((j - i) + k) (subst (Appends a c) both (Appends-trans a b c _ _ t u))
+
+-- what holds anyway holds of an error
+pub of_error : {T E P : Type 0} (r : Result T E) → P → OnErr r P
+of_error (Ok v) p = tt
+of_error (Err e) p = p
+
+-- a writer that had got the first m bytes took n of the rest
+pub took_more : (a b c : Option (List ℕ)) (bs : List ℕ) (m n : ℕ) → Appends a b (take m bs) → Appends b c (take n (slice_range bs m (length bs))) → Appends a c (take (m + n) bs)
+took_more a b c bs m n t u =
+    let rest = ap (take n) (take_rest bs m) in
+    subst (Appends a c) (ap (λ (l : List ℕ). take m bs ++ l) rest ∙ sym (take-add m n bs)) (Appends-trans a b c _ _ t u)

@@ -3,21 +3,21 @@
 
 #![tactic(auto)]
 
-ghost use Rattle.std.specs.Prelude.{◌≡◌, false, true, ◌+◌, ◌≤◌, length, take, replicate, [], IfOk, OnOk};
+ghost use Rattle.std.specs.Prelude.{◌≡◌, false, true, ◌+◌, ◌≤◌, length, take, replicate, [], IfOk, OnOk, OnErr};
 ghost use Rattle.std.specs.Io.KnownBytes.{Appends};
 ghost use Rattle.board.specs.declared.Board.TheVariants.{Display};
 ghost use Rattle.record.specs.Record.{fresh_record};
 ghost use Rattle.trace_rules.specs.Lines.{header, last_line};
 ghost use Rattle.report_rules.specs.Report.{beginning, report_for, report_of};
 ghost use Rattle.report_rules.specs.Runs.{Has, Completes};
-ghost use Rattle.trace_reporter.specs.Told.{Told};
+ghost use Rattle.trace_reporter.specs.Told.{Told, AppendsFront, LeftAt};
 ghost use Rattle.trace_reporter.specs.Under.{Under};
 
 use board::Board;
 use record::Record;
 use report_rules::Came;
 use std::io;
-use std::io::Write;
+use std::io::{ErrorKind, Write};
 
 fn store_list() -> [u16; 384]
     ensures { result ≡ replicate 384 0 }
@@ -32,9 +32,37 @@ fn line_buffer() -> [u8; 8192]
     [0; 8192]
 }
 
+// All the bytes: each write hands the writer all that it has not taken yet, as std's `write_all` does, which does not say what an error leaves. Here
+// a writer whose bytes are known has then got a front part of these. A write that was interrupted is made again.
+fn write_whole<W: Write>(to: &mut W, bytes: &[u8]) -> io::Result<()>
+    ensures ok { OnOk result (Appends (W.contents to.old) (W.contents to.new) bytes.now) }
+    ensures err { OnErr result (AppendsFront (W.contents to.old) (W.contents to.new) bytes.now) }
+{
+    let mut taken: usize = 0;
+    for _ in 0..u64::MAX {
+        if bytes.len() <= taken {
+            return Ok(());
+        }
+        match to.write(&bytes[taken..]) {
+            Ok(0) => {
+                return Err(io::Error::new(ErrorKind::WriteZero, "failed to write whole buffer"));
+            }
+            Ok(n) => taken += n,
+            Err(e) => {
+                if e.kind() != ErrorKind::Interrupted {
+                    return Err(e);
+                }
+            }
+        }
+    }
+    Err(io::Error::from(ErrorKind::TimedOut))
+}
+
 // The report's only way out: the bytes are those that the report has at the place `done`, and the place moves past them. One place goes through
 // all calls, from 0 to the report's length (`put_report`): the report's bytes in their order. That nothing else moves the place is to be seen here.
-// A writer whose bytes are known has then got just these. What a call of the system writes no contract can say.
+// It has moved also where the write failed.
+// A writer whose bytes are known has then got just these, and at an error a front part of what the report has from there on (`left`). What a call
+// of the system writes no contract can say.
 fn put<W: Write>(
     to: &mut W,
     trace: &[u8],
@@ -47,9 +75,10 @@ fn put<W: Write>(
     requires { (len ≤ length line.now) × (done.old + len ≤ 1000000000) × Has (beginning k first.now) trace.now done.old (take len line.now) }
     ensures place { done.new ≡ done.old + len }
     ensures told { OnOk result (Told (beginning k first.now) trace.now (W.contents to.old) (W.contents to.new) done.old done.new) }
+    ensures left { OnErr result (LeftAt (beginning k first.now) trace.now (W.contents to.old) (W.contents to.new) done.old) }
 {
     *done += len;
-    to.write_all(&line[..len])
+    write_whole(to, &line[..len])
 }
 
 // The last line, a word and a number: it ends the report from the record k and the FIFO memory that stood there at first.
@@ -66,6 +95,7 @@ fn put_last<W: Write>(
     requires { (8192 ≤ length line.old) × (done.old ≤ 900000000) × Completes (beginning k first.now) trace.now done.old (last_line word.now n) }
     ensures place { done.new ≡ length (report_for (beginning k first.now) trace.now) }
     ensures told { OnOk result (Told (beginning k first.now) trace.now (W.contents to.old) (W.contents to.new) done.old done.new) }
+    ensures left { OnErr result (LeftAt (beginning k first.now) trace.now (W.contents to.old) (W.contents to.new) done.old) }
 {
     let len = trace_report::last_line(line, word, n);
     put(to, trace, k, first, done, line, len)
@@ -109,7 +139,8 @@ fn put_details<W: Write>(
     put_under(to, detail, list, n, k, line, b)
 }
 
-// The entries of a trace that is not too long, each with its line, and the last line. The header is written.
+// The entries of a trace that is not too long, each with its line, and the last line. The header is written. After an error the place stands behind the
+// last line of the report that was begun.
 fn put_entries<W: Write>(
     to: &mut W,
     trace: &[u8],
@@ -121,6 +152,7 @@ fn put_entries<W: Write>(
     requires { (length trace.now ≤ 65536) × (done.old ≡ length header) }
     ensures place { OnOk result (done.new ≡ length (report_for (beginning start first) trace.now)) }
     ensures told { detail ≡ false → OnOk result (Told (beginning start first) trace.now (W.contents to.old) (W.contents to.new) done.old done.new) }
+    ensures left { detail ≡ false → OnErr result (LeftAt (beginning start first) trace.now (W.contents to.old) (W.contents to.new) done.old) }
 {
     let mut k = start;
     let mut fifo = first;
@@ -150,7 +182,7 @@ fn put_entries<W: Write>(
 }
 
 // The report of a trace that begins with a record and FIFO memory; with `detail`, its stores and the record under each entry's line. It gives
-// the report's length, all of which it has written; an error is the writer's.
+// the report's length, all of which it has written; an error is the writer's, which has then got a front part of the report.
 pub fn put_report<W: Write>(
     to: &mut W,
     trace: &[u8],
@@ -160,6 +192,7 @@ pub fn put_report<W: Write>(
 ) -> io::Result<usize>
     ensures count { IfOk result (λ n. n ≡ length (report_for (beginning start first) trace.now)) }
     ensures written { detail ≡ false → OnOk result (Appends (W.contents to.old) (W.contents to.new) (report_for (beginning start first) trace.now)) }
+    ensures left { detail ≡ false → OnErr result (AppendsFront (W.contents to.old) (W.contents to.new) (report_for (beginning start first) trace.now)) }
 {
     let mut line = line_buffer();
     let mut done: usize = 0;
@@ -179,6 +212,7 @@ pub fn put_report<W: Write>(
 pub fn put_fresh<W: Write>(to: &mut W, trace: &[u8], detail: bool) -> io::Result<usize>
     ensures count { IfOk result (λ n. n ≡ length (report_of (fresh_record Display) trace.now)) }
     ensures written { detail ≡ false → OnOk result (Appends (W.contents to.old) (W.contents to.new) (report_of (fresh_record Display) trace.now)) }
+    ensures left { detail ≡ false → OnErr result (AppendsFront (W.contents to.old) (W.contents to.new) (report_of (fresh_record Display) trace.now)) }
 {
     put_report(
         to,

@@ -1,9 +1,9 @@
 use native.Mathlib.Omega.{arith}
 use borrow.Author.Rules.{rules}
-use Rattle.std.proofs.lemmas.Result.{on_ok_weaker}
+use Rattle.std.proofs.lemmas.Result.{on_ok_weaker, on_err_weaker}
 use Rattle.trace_rules.specs.Lines.{end_line, bad_line}
 use Rattle.report_rules.specs.Report.{beginning}
-use Rattle.trace_reporter.proofs.Reaching.{stands_first, line_here, stands_next, ends_here, stops_here, moved, told_nothing, told_on, told_no_more}
+use Rattle.trace_reporter.proofs.Reaching.{stands_first, line_here, stands_next, ends_here, stops_here, moved, told_nothing, told_on, told_no_more, told_is_left, left_on, of_error}
 use Rattle.trace_reporter.proofs.put_entries.Goals as goal
 
 pub loop-len-init : goal.loop-len-init
@@ -55,3 +55,25 @@ returns-in-Bad-clause-told g c =
     let i = c.loop-len.invariant in
     let last = stops_here _ _ _ _ _ _ _ _ i.5 c.loop-len.line c.step-r.ensures.line_after c.step-r.ensures.moves c.requires.0 c.in-Bad.is in
     λ d. on_ok_weaker _ (told_on (beginning c.args.start c.args.first) c.args.trace.now _ _ _ _ _ _ i.6 (omega (arith, last.whole, c.put_last-in-Bad.ensures.place)) (i.7 d)) c.put_last-in-Bad.ensures.told
+
+pub returns-in_err-put-in-Line-clause-left : goal.returns-in_err-put-in-Line-clause-left
+returns-in_err-put-in-Line-clause-left g c =
+    let i = c.loop-len.invariant in
+    λ d. of_error c.from_residual.result (left_on (beginning c.args.start c.args.first) c.args.trace.now _ _ _ _ _ i.6 (i.7 d) c.in_err-put-in-Line.ensures.left)
+
+pub returns-in_err-put_details-in-Line-clause-left : goal.returns-in_err-put_details-in-Line-clause-left
+returns-in_err-put_details-in-Line-clause-left g c =
+    let i = c.loop-len.invariant in
+    let x = beginning c.args.start c.args.first in
+    let s = c.args.trace.now in
+    λ d. of_error c.from_residual-in_err-put_details-in-Line.result (told_is_left x s _ _ _ _ (told_no_more x s _ _ _ _ _ (told_on x s _ _ _ _ _ _ i.6 (omega (arith, c.put.ensures.place)) (i.7 d) c.in_ok-put-in-Line.ensures.told) (c.put_details.ensures d)))
+
+pub returns-in-End-clause-left : goal.returns-in-End-clause-left
+returns-in-End-clause-left g c =
+    let i = c.loop-len.invariant in
+    λ d. on_err_weaker _ (left_on (beginning c.args.start c.args.first) c.args.trace.now _ _ _ _ _ i.6 (i.7 d)) c.put_last.ensures.left
+
+pub returns-in-Bad-clause-left : goal.returns-in-Bad-clause-left
+returns-in-Bad-clause-left g c =
+    let i = c.loop-len.invariant in
+    λ d. on_err_weaker _ (left_on (beginning c.args.start c.args.first) c.args.trace.now _ _ _ _ _ i.6 (i.7 d)) c.put_last-in-Bad.ensures.left

@@ -6,7 +6,8 @@ use mathlib.Core.List.{List}
 use lib.ListN.{length}
 use Rattle.std.specs.Prelude.{IfOk}
 use Rattle.std.specs.Io.KnownBytes.{Appends}
-use Rattle.std.proofs.lemmas.Result.{on_ok_weaker}
+use Rattle.std.proofs.lemmas.Result.{on_ok_weaker, on_err_weaker}
+use Rattle.trace_reporter.specs.Told.{AppendsFront}
 use Rattle.trace_reporter.proofs.Reaching.{fresh_report}
 use Rattle.trace_reporter.proofs.put_fresh.Goals as goal
 
@@ -15,3 +16,6 @@ returns-clause-count g c = subst (λ (t : List ℕ). IfOk c.put_report.result (�
 
 pub returns-clause-written : goal.returns-clause-written
 returns-clause-written g c = λ d. on_ok_weaker _ (subst (Appends _ _) (fresh_report _ c.args.trace.now c.fresh.ensures)) (c.put_report.ensures.written d)
+
+pub returns-clause-left : goal.returns-clause-left
+returns-clause-left g c = λ d. on_err_weaker _ (subst (AppendsFront _ _) (fresh_report _ c.args.trace.now c.fresh.ensures)) (c.put_report.ensures.left d)

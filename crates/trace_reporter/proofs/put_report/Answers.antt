@@ -3,8 +3,9 @@
 use native.Mathlib.Omega.{arith}
 use borrow.Author.Rules.{rules}
 use Rattle.trace_rules.specs.Lines.{bad_line}
+use Rattle.report_rules.specs.Report.{beginning}
 use Rattle.report_rules.proofs.Whole.{begins_with}
-use Rattle.trace_reporter.proofs.Reaching.{from_front, too_long_here}
+use Rattle.trace_reporter.proofs.Reaching.{from_front, too_long_here, left_on, of_error}
 use Rattle.trace_reporter.proofs.put_report.Goals as goal
 
 pub put-requires : goal.put-requires
@@ -17,3 +18,11 @@ unfolding bad_line
 put_last-requires g c =
     let e = c.header_line-len.ensures in
     (search rules, omega (arith, e.upper_bound, c.put.ensures.place), too_long_here _ _ e.wrote c.put.ensures.place c.if-trace-gt65536.true)
+
+pub returns-in_err-put_last-clause-left : goal.returns-in_err-put_last-clause-left
+returns-in_err-put_last-clause-left g c =
+    λ d. of_error c.from_residual-in_err-put_last.result (left_on (beginning c.args.start c.args.first) c.args.trace.now _ _ _ 0 _ (omega arith) c.in_ok-put.ensures.told c.in_err-put_last.ensures.left)
+
+pub returns-in_err-put_entries-clause-left : goal.returns-in_err-put_entries-clause-left
+returns-in_err-put_entries-clause-left g c =
+    λ d. of_error c.from_residual-in_err-put_entries.result (left_on (beginning c.args.start c.args.first) c.args.trace.now _ _ _ 0 _ (omega arith) c.in_ok-put.ensures.told (c.in_err-put_entries.ensures.left d))

@@ -1,0 +1,9 @@
+-- `trace_reporter::write_whole`: the writer has got the bytes that are counted as taken.
+-- Assumes nothing.
+use Prim.Native.Nat.{◌≤◌}
+use lib.ListN.{length, take}
+use Rattle.std.specs.Io.KnownBytes.{Appends}
+use Rattle.trace_reporter.proofs.write_whole.Given as goal
+
+abbrev pub invariant-loop : goal.invariant-loop
+invariant-loop g l = (l.taken ≤ length l.bytes) × Appends (g.W.Write.contents l.initial.to) (g.W.Write.contents l.to) (take l.taken l.bytes)
