@@ -7,11 +7,12 @@
 
 #![tactic(auto)]
 
-ghost use Rattle.std.specs.Prelude.{◌≡◌, false, ◌≤◌, length, drop, OnOk, IfSome};
+ghost use Rattle.std.specs.Prelude.{◌≡◌, false, true, ◌≤◌, length, drop, OnOk, IfSome};
 ghost use Rattle.std.specs.Io.KnownBytes.{Appends};
 ghost use Rattle.board.specs.declared.Board.TheVariants.{Display};
 ghost use Rattle.record.specs.Record.{fresh_record};
-ghost use Rattle.report_rules.specs.Report.{report_for, report_of};
+ghost use Rattle.report_rules.specs.Report.{begun, report_for, report_of};
+ghost use Rattle.trace_reporter.specs.Detailed.{detailed_for};
 ghost use Rattle.runner.specs.Behind.{begun_behind};
 
 use std::env::{Env, FillError};
@@ -56,7 +57,8 @@ fn words(env: &impl Env) -> Asked {
 
 // One byte more than document 01 allows is read, so that a trace that is too long is seen to be so: the report is that of all bytes that follow.
 fn report_given<R: Read, W: Write>(from: &mut R, to: &mut W, detail: bool) -> io::Result<()>
-    ensures { detail ≡ false → OnOk result (IfSome (R.remaining from.old) (λ xs. 2048 ≤ length xs → Appends (W.contents to.old) (W.contents to.new) (report_for (begun_behind xs) (drop 2048 xs)))) }
+    ensures written { detail ≡ false → OnOk result (IfSome (R.remaining from.old) (λ xs. 2048 ≤ length xs → Appends (W.contents to.old) (W.contents to.new) (report_for (begun_behind xs) (drop 2048 xs)))) }
+    ensures detailed { detail ≡ true → OnOk result (IfSome (R.remaining from.old) (λ xs. 2048 ≤ length xs → Appends (W.contents to.old) (W.contents to.new) (detailed_for (begun_behind xs) (drop 2048 xs)))) }
 {
     let mut head = [0u8; 384];
     let mut fifo = [0u8; 1664];
@@ -71,7 +73,8 @@ fn report_given<R: Read, W: Write>(from: &mut R, to: &mut W, detail: bool) -> io
 
 // The same where nothing stands before the trace.
 fn report_fresh<R: Read, W: Write>(from: &mut R, to: &mut W, detail: bool) -> io::Result<()>
-    ensures { detail ≡ false → OnOk result (IfSome (R.remaining from.old) (λ xs. Appends (W.contents to.old) (W.contents to.new) (report_of (fresh_record Display) xs))) }
+    ensures written { detail ≡ false → OnOk result (IfSome (R.remaining from.old) (λ xs. Appends (W.contents to.old) (W.contents to.new) (report_of (fresh_record Display) xs))) }
+    ensures detailed { detail ≡ true → OnOk result (IfSome (R.remaining from.old) (λ xs. Appends (W.contents to.old) (W.contents to.new) (detailed_for (begun (fresh_record Display)) xs))) }
 {
     let mut trace = [0u8; 65537];
     let n = input::read_full(from, &mut trace)?;

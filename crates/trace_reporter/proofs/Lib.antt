@@ -1,1 +1,2 @@
+pub mod Detailing
 pub mod Reaching

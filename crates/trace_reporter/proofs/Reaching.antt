@@ -31,13 +31,14 @@ use Rattle.report_rules.specs.Report.{report_for, report_of, stepped, step_of, b
 use Rattle.report_rules.specs.Runs.{Took, Reached, begins, goes, Has, Completes}
 use Rattle.report_rules.proofs.Whole as whole
 use Rattle.trace_reporter.specs.Told.{Told, AppendsFront, LeftAt}
+use Rattle.trace_reporter.specs.Detailed.{detailed_for}
 
 -- the display's FIFO memory: a fresh display begins as `begun` says
 need : need_of (fresh_record Display) ≡ 1664
 unfolding need_in need_of fresh_record
 need = ap (λ (b : Board). total (rows b)) (fresh_words Display).1 ∙ ap total rows_display ∙ display_total
 
-pub fresh_begins : beginning (fresh_record Display) (replicate 1664 0) ≡ begun (fresh_record Display)
+fresh_begins : beginning (fresh_record Display) (replicate 1664 0) ≡ begun (fresh_record Display)
 fresh_begins = ap (λ (n : ℕ). beginning (fresh_record Display) (replicate n 0)) (sym need)
 
 header_short : length header ≤ 100
@@ -97,9 +98,15 @@ too_long_here x s {done = done} w e h =
     let d : length header ≡ done = omega (arith, e, w.count) in
     subst (λ (n : ℕ). Completes x s n (bad_line 65536)) d (whole.too_long x s h)
 
--- the report of a trace from a fresh display on
+-- where a fresh display begins, and the report of a trace from there on
+fresh_state : (k : Record) → k ≡ fresh_record Display → beginning k (replicate 1664 0) ≡ begun (fresh_record Display)
+fresh_state k e = ap (λ (j : Record). beginning j (replicate 1664 0)) e ∙ fresh_begins
+
 pub fresh_report : (k : Record) (s : List ℕ) → k ≡ fresh_record Display → report_for (beginning k (replicate 1664 0)) s ≡ report_of (fresh_record Display) s
-fresh_report k s e = ap (λ (j : Record). report_for (beginning j (replicate 1664 0)) s) e ∙ ap (λ (x : State). report_for x s) fresh_begins
+fresh_report k s e = ap (λ (x : State). report_for x s) (fresh_state k e)
+
+pub fresh_detailed : (k : Record) (s : List ℕ) → k ≡ fresh_record Display → detailed_for (beginning k (replicate 1664 0)) s ≡ detailed_for (begun (fresh_record Display)) s
+fresh_detailed k s e = ap (λ (x : State). detailed_for x s) (fresh_state k e)
 
 pub fresh_whole : (k : Record) (s : List ℕ) {r : ℕ} → k ≡ fresh_record Display → r ≡ length (report_for (beginning k (replicate 1664 0)) s) → r ≡ length (report_of (fresh_record Display) s)
 fresh_whole k s e p = p ∙ ap length (fresh_report k s e)

@@ -1,2 +1,3 @@
+pub mod Detailed
 pub mod Told
 pub mod Under

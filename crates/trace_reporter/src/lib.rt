@@ -8,9 +8,10 @@ ghost use Rattle.std.specs.Io.KnownBytes.{Appends};
 ghost use Rattle.board.specs.declared.Board.TheVariants.{Display};
 ghost use Rattle.record.specs.Record.{fresh_record};
 ghost use Rattle.trace_rules.specs.Lines.{header, last_line};
-ghost use Rattle.report_rules.specs.Report.{beginning, report_for, report_of};
+ghost use Rattle.report_rules.specs.Report.{beginning, begun, report_for, report_of};
 ghost use Rattle.report_rules.specs.Runs.{Has, Completes};
 ghost use Rattle.trace_reporter.specs.Told.{Told, AppendsFront, LeftAt};
+ghost use Rattle.trace_reporter.specs.Detailed.{details, detailed_rest, detailed_for};
 ghost use Rattle.trace_reporter.specs.Under.{Under};
 
 use board::Board;
@@ -74,6 +75,7 @@ fn put<W: Write>(
 ) -> io::Result<()>
     requires { (len ≤ length line.now) × (done.old + len ≤ 1000000000) × Has (beginning k first.now) trace.now done.old (take len line.now) }
     ensures place { done.new ≡ done.old + len }
+    ensures bytes { OnOk result (Appends (W.contents to.old) (W.contents to.new) (take len line.now)) }
     ensures told { OnOk result (Told (beginning k first.now) trace.now (W.contents to.old) (W.contents to.new) done.old done.new) }
     ensures left { OnErr result (LeftAt (beginning k first.now) trace.now (W.contents to.old) (W.contents to.new) done.old) }
 {
@@ -94,6 +96,7 @@ fn put_last<W: Write>(
 ) -> io::Result<()>
     requires { (8192 ≤ length line.old) × (done.old ≤ 900000000) × Completes (beginning k first.now) trace.now done.old (last_line word.now n) }
     ensures place { done.new ≡ length (report_for (beginning k first.now) trace.now) }
+    ensures bytes { OnOk result (Appends (W.contents to.old) (W.contents to.new) (last_line word.now n)) }
     ensures told { OnOk result (Told (beginning k first.now) trace.now (W.contents to.old) (W.contents to.new) done.old done.new) }
     ensures left { OnErr result (LeftAt (beginning k first.now) trace.now (W.contents to.old) (W.contents to.new) done.old) }
 {
@@ -127,7 +130,8 @@ fn put_details<W: Write>(
     line: &mut [u8],
 ) -> io::Result<()>
     requires { (384 ≤ length list.now) × (8192 ≤ length line.old) }
-    ensures { detail ≡ false → Appends (W.contents to.old) (W.contents to.new) [] }
+    ensures none { detail ≡ false → Appends (W.contents to.old) (W.contents to.new) [] }
+    ensures both { detail ≡ true → OnOk result (Appends (W.contents to.old) (W.contents to.new) (details list.now stores k)) }
 {
     if !detail {
         return Ok(());
@@ -153,6 +157,7 @@ fn put_entries<W: Write>(
     ensures place { OnOk result (done.new ≡ length (report_for (beginning start first) trace.now)) }
     ensures told { detail ≡ false → OnOk result (Told (beginning start first) trace.now (W.contents to.old) (W.contents to.new) done.old done.new) }
     ensures left { detail ≡ false → OnErr result (LeftAt (beginning start first) trace.now (W.contents to.old) (W.contents to.new) done.old) }
+    ensures detailed { detail ≡ true → OnOk result (Appends (W.contents to.old) (W.contents to.new) (detailed_rest trace.now 0 0 (beginning start first))) }
 {
     let mut k = start;
     let mut fifo = first;
@@ -193,6 +198,7 @@ pub fn put_report<W: Write>(
     ensures count { IfOk result (λ n. n ≡ length (report_for (beginning start first) trace.now)) }
     ensures written { detail ≡ false → OnOk result (Appends (W.contents to.old) (W.contents to.new) (report_for (beginning start first) trace.now)) }
     ensures left { detail ≡ false → OnErr result (AppendsFront (W.contents to.old) (W.contents to.new) (report_for (beginning start first) trace.now)) }
+    ensures detailed { detail ≡ true → OnOk result (Appends (W.contents to.old) (W.contents to.new) (detailed_for (beginning start first) trace.now)) }
 {
     let mut line = line_buffer();
     let mut done: usize = 0;
@@ -213,6 +219,7 @@ pub fn put_fresh<W: Write>(to: &mut W, trace: &[u8], detail: bool) -> io::Result
     ensures count { IfOk result (λ n. n ≡ length (report_of (fresh_record Display) trace.now)) }
     ensures written { detail ≡ false → OnOk result (Appends (W.contents to.old) (W.contents to.new) (report_of (fresh_record Display) trace.now)) }
     ensures left { detail ≡ false → OnErr result (AppendsFront (W.contents to.old) (W.contents to.new) (report_of (fresh_record Display) trace.now)) }
+    ensures detailed { detail ≡ true → OnOk result (Appends (W.contents to.old) (W.contents to.new) (detailed_for (begun (fresh_record Display)) trace.now)) }
 {
     put_report(
         to,

@@ -8,7 +8,7 @@ use Rattle.std.specs.Prelude.{IfOk}
 use Rattle.std.specs.Io.KnownBytes.{Appends}
 use Rattle.std.proofs.lemmas.Result.{on_ok_weaker, on_err_weaker}
 use Rattle.trace_reporter.specs.Told.{AppendsFront}
-use Rattle.trace_reporter.proofs.Reaching.{fresh_report}
+use Rattle.trace_reporter.proofs.Reaching.{fresh_report, fresh_detailed}
 use Rattle.trace_reporter.proofs.put_fresh.Goals as goal
 
 pub returns-clause-count : goal.returns-clause-count
@@ -19,3 +19,6 @@ returns-clause-written g c = λ d. on_ok_weaker _ (subst (Appends _ _) (fresh_re
 
 pub returns-clause-left : goal.returns-clause-left
 returns-clause-left g c = λ d. on_err_weaker _ (subst (AppendsFront _ _) (fresh_report _ c.args.trace.now c.fresh.ensures)) (c.put_report.ensures.left d)
+
+pub returns-clause-detailed : goal.returns-clause-detailed
+returns-clause-detailed g c = λ d. on_ok_weaker _ (subst (Appends _ _) (fresh_detailed _ c.args.trace.now c.fresh.ensures)) (c.put_report.ensures.detailed d)
