@@ -21,20 +21,32 @@ use Rattle.report_rules.specs.Act.{State, state, acted}
 use Rattle.report_rules.specs.declared.Came.{Came}
 use Rattle.report_rules.specs.declared.Came.TheVariants as came
 use Rattle.report_rules.specs.declared.Stepped.{Stepped}
-use Rattle.report_rules.specs.Report.{line_of, StepOutcome, stepped, step_by, step_of}
+use Rattle.report_rules.specs.Report.{line_of, report_by, report_from, StepOutcome, stepped, step_by, step_of}
 use Rattle.report_rules.proofs.Whole.{line_not_end, line_not_bad}
-use Rattle.trace_reporter.specs.Detailed.{details, detailed_by, detailed_from, detailed_rest, detailed_for}
+use Rattle.trace_reporter.specs.Detailed.{details, under, detailed_by, detailed_from, detailed_rest, detailed_for}
+
+-- with nothing under the lines it is the report
+pub bare : (most : ℕ) (s : List ℕ) (at n : ℕ) (x : State) → detailed_from (λ o. []) most s at n x ≡ report_from most s at n x
+unfolding detailed_from report_from
+bare zero s at n x = refl
+bare (suc most) s at n x = go (entry_at s at) (λ past y. bare most s past (suc n) y)
+  where
+    go : (p : Parsed) → ((past : ℕ) (y : State) → detailed_from (λ o. []) most s past (suc n) y ≡ report_from most s past (suc n) y)
+        → detailed_by (λ o. []) (λ past y. detailed_from (λ o. []) most s past (suc n) y) s at n x p ≡ report_by (λ past y. report_from most s past (suc n) y) s at n x p
+    go (Found e past) rec = ap (λ (t : List ℕ). line_of e (acted s e x) ++ t) (rec past (acted s e x).state)
+    go End rec = refl
+    go Bad rec = refl
 
 -- how many entries are allowed does not matter where the bytes that are left are fewer
-enough : (m m' : ℕ) (s : List ℕ) (at n : ℕ) (x : State) → at ≤ length s → length s < m + at → length s < m' + at → detailed_from m s at n x ≡ detailed_from m' s at n x
+enough : (m m' : ℕ) (s : List ℕ) (at n : ℕ) (x : State) → at ≤ length s → length s < m + at → length s < m' + at → detailed_from under m s at n x ≡ detailed_from under m' s at n x
 unfolding detailed_from
 enough zero m' s at n x h i j = absurd (omega arith)
 enough (suc m) zero s at n x h i j = absurd (omega arith)
 enough (suc m) (suc m') s at n x h i j = go (entry_at s at) refl (λ past y p q r. enough m m' s past (suc n) y p q r)
   where
     go : (p : Parsed) → p ≡ entry_at s at
-        → ((past : ℕ) (y : State) → past ≤ length s → length s < m + past → length s < m' + past → detailed_from m s past (suc n) y ≡ detailed_from m' s past (suc n) y)
-        → detailed_by (λ past y. detailed_from m s past (suc n) y) s at n x p ≡ detailed_by (λ past y. detailed_from m' s past (suc n) y) s at n x p
+        → ((past : ℕ) (y : State) → past ≤ length s → length s < m + past → length s < m' + past → detailed_from under m s past (suc n) y ≡ detailed_from under m' s past (suc n) y)
+        → detailed_by under (λ past y. detailed_from under m s past (suc n) y) s at n x p ≡ detailed_by under (λ past y. detailed_from under m' s past (suc n) y) s at n x p
     go (Found e past) is rec =
         let o = moves s at (Found e past) is e past refl in
         let a = acted s e x in
@@ -50,17 +62,17 @@ module _ (s : List ℕ) (at n : ℕ) (x : State) where
   goes_on e past is =
       let o = moves s at (entry_at s at) refl e past is in
       let a = acted s e x in
-      ap (detailed_by (λ next y. detailed_from (length s - at) s next (suc n) y) s at n x) is
+      ap (detailed_by under (λ next y. detailed_from under (length s - at) s next (suc n) y) s at n x) is
       ∙ ap (λ (t : List ℕ). line_of e a ++ (details a.state.list a.stores a.state.«record» ++ t))
       (enough (length s - at) (suc (length s - past)) s past (suc n) a.state o.1 (omega (arith, o.0, o.1)) (omega (arith, o.1)))
 
   ends : entry_at s at ≡ End → detailed_rest s at n x ≡ end_line n
   unfolding detailed_rest detailed_from
-  ends is = ap (detailed_by (λ next y. detailed_from (length s - at) s next (suc n) y) s at n x) is
+  ends is = ap (detailed_by under (λ next y. detailed_from under (length s - at) s next (suc n) y) s at n x) is
 
   stops : entry_at s at ≡ Bad → detailed_rest s at n x ≡ bad_line at
   unfolding detailed_rest detailed_from
-  stops is = ap (detailed_by (λ next y. detailed_from (length s - at) s next (suc n) y) s at n x) is
+  stops is = ap (detailed_by under (λ next y. detailed_from under (length s - at) s next (suc n) y) s at n x) is
 
 end_not_bad : came.End ≡ came.Bad → ⊥
 end_not_bad e = let z : ◌≡◌ {A = ℕ} 0 1 = cc in omega arith
