@@ -1,10 +1,7 @@
--- `read_full`: the bytes that were read stand at the front, and fewer are left to fill from turn to turn.
-use Rattle.std.proofs.Common.{length, ◌-◌, ◌≡◌, take, ◌≤◌}
+-- `read_full`: the bytes that were read stand at the front.
+use Rattle.std.proofs.Common.{length, ◌≡◌, take, ◌≤◌}
 use Rattle.std.specs.Io.KnownBytes.{Consumes}
 use Rattle.input.proofs.read_full.Given as goal
 
-abbrev pub invariant-loop-done : goal.invariant-loop-done
-invariant-loop-done g l = (l.done ≤ length l.into) × (length l.into ≡ length l.initial.into) × Consumes (g.R.Read.remaining l.initial.from) (g.R.Read.remaining l.from) (take l.done l.into)
-
-abbrev pub decreases-loop-done : goal.decreases-loop-done
-decreases-loop-done g l = length l.initial.into - l.done
+abbrev pub invariant-loop : goal.invariant-loop
+invariant-loop g l = (l.done ≤ length l.into) × (length l.into ≡ length l.initial.into) × Consumes (g.R.Read.remaining l.initial.from) (g.R.Read.remaining l.from) (take l.done l.into)
