@@ -1,21 +1,19 @@
 -- Which reply `alloc_ep` gives: the number of the first of its rows that holds; and that a refused one changes nothing.
 -- Assumes nothing.
+use Rattle.std.specs.Prelude.{ℕ, Err, Ok, Option, Result}
 use mathlib.Core.Path.{◌≡◌, refl, sym, ap, ◌∙◌}
 use mathlib.Core.Logic.{inl, inr}
 use mathlib.Core.Bool.{Bool, true, false}
 use native.Mathlib.Omega.{arith}
 use Rattle.laws.proofs.Tests.{clash}
 use Rattle.board.specs.Boards.{rows}
-use Rattle.endpoints.specs.Endpoints.{Ask}
+use Rattle.endpoints.specs.declared.Ask.{Ask}
 use Rattle.endpoints.specs.Numbers.{error_number, answer_number}
-use Rattle.endpoints.specs.declared.Wanted.{Wanted}
-use Rattle.endpoints.specs.declared.Answer.{Answer}
-use Rattle.endpoints.specs.declared.Answer.TheVariants as answer
 use Rattle.endpoints.specs.declared.EndpointAllocError.{EndpointAllocError}
 use Rattle.endpoints.specs.declared.EndpointAllocError.TheVariants.{EndpointOverflow, InvalidEndpoint, EpDirNotSupported, EpUsed, MaxPacketSizeBiggerThanEpFifoSize}
 use Rattle.endpoints.specs.Allocate.{allocate}
 use Rattle.endpoints.specs.Replies as allocation
-use Rattle.endpoints.specs.declared.Allocated.{Allocated}
+use Rattle.endpoints.specs.Allocate.{Allocated}
 use Rattle.endpoints.proofs.Answers as alloc
 use Rattle.endpoints.proofs.Changes.{refused_keeps}
 use Rattle.record.specs.declared.Record.{Record}
@@ -30,7 +28,7 @@ fails : (b : Bool) → (b ≡ true → ⊥) → b ≡ false
 fails true n = absurd (n refl)
 fails false n = refl
 
-module _ (k : Record) (q : Ask) (w : Wanted) where
+module _ (k : Record) (q : Ask) (w : Option ℕ) where
   abbrev given : Allocated
   given = allocate (rows k.regs.board) k.endpoints q w
 
@@ -38,10 +36,10 @@ module _ (k : Record) (q : Ask) (w : Wanted) where
   Row x = allocation.Given (rows k.regs.board) k.endpoints q x w
 
   -- alloc_endpoint's own laws
-  says : (x : EndpointAllocError) → given.answer ≡ answer.Refused x → Row x
+  says : (x : EndpointAllocError) → given.answer ≡ Err x → Row x
   says x e = (alloc.exactly (rows k.regs.board) k.endpoints q w x).0 (ap answer_number e)
 
-  unsaid : (x : EndpointAllocError) {a : Answer} → given.answer ≡ a → (answer_number a ≡ error_number x → ⊥) → Row x → ⊥
+  unsaid : (x : EndpointAllocError) {a : Result ℕ EndpointAllocError} → given.answer ≡ a → (answer_number a ≡ error_number x → ⊥) → Row x → ⊥
   unsaid x e n g = n (ap answer_number (sym e) ∙ (alloc.exactly (rows k.regs.board) k.endpoints q w x).1 g)
 
   abbrev five : Bool
@@ -54,24 +52,24 @@ module _ (k : Record) (q : Ask) (w : Wanted) where
   four = allocation.row4 (rows k.regs.board) k.endpoints q w
 
   -- of a record that passes, the rows behind 16
-  meets : SoundRecord k → (a : Answer) → given.answer ≡ a → Given (answer_number a) (alloc_rows k q w)
+  meets : SoundRecord k → (a : Result ℕ EndpointAllocError) → given.answer ≡ a → Given (answer_number a) (alloc_rows k q w)
   unfolding Given
-  meets s (answer.Done n) e =
+  meets s (Ok n) e =
       let no2 = unsaid InvalidEndpoint e (λ z. omega arith) in
       let no5 : five ≡ true → ⊥ = λ p. unsaid MaxPacketSizeBiggerThanEpFifoSize e (λ z. omega arith) (fails _ no2, p) in
       let no3 : three ≡ true → ⊥ = λ p. unsaid EpDirNotSupported e (λ z. omega arith) (fails _ no2, fails _ no5, p) in
       let no4 : four ≡ true → ⊥ = λ p. unsaid EpUsed e (λ z. omega arith) (fails _ no2, fails _ no5, fails _ no3, p) in
       inr (λ b. b s, inr (unsaid EndpointOverflow e (λ z. omega arith), inr (no2, inr (no5, inr (no3, inr (no4, refl))))))
-  meets s (answer.Refused EndpointOverflow) e = inr (λ b. b s, inl (says EndpointOverflow e, refl))
-  meets s (answer.Refused InvalidEndpoint) e =
+  meets s (Err EndpointOverflow) e = inr (λ b. b s, inl (says EndpointOverflow e, refl))
+  meets s (Err InvalidEndpoint) e =
       inr (λ b. b s, inr (unsaid EndpointOverflow e (λ z. omega arith), inl (says InvalidEndpoint e, refl)))
-  meets s (answer.Refused MaxPacketSizeBiggerThanEpFifoSize) e =
+  meets s (Err MaxPacketSizeBiggerThanEpFifoSize) e =
       let g = says MaxPacketSizeBiggerThanEpFifoSize e in
       inr (λ b. b s, inr (unsaid EndpointOverflow e (λ z. omega arith), inr (λ p. clash (sym p ∙ g.0), inl (g.1, refl))))
-  meets s (answer.Refused EpDirNotSupported) e =
+  meets s (Err EpDirNotSupported) e =
       let g = says EpDirNotSupported e in
       inr (λ b. b s, inr (unsaid EndpointOverflow e (λ z. omega arith), inr (λ p. clash (sym p ∙ g.0), inr (λ p. clash (sym p ∙ g.1), inl (g.2, refl)))))
-  meets s (answer.Refused EpUsed) e =
+  meets s (Err EpUsed) e =
       let g = says EpUsed e in
       inr (
         λ b. b s,
@@ -81,13 +79,13 @@ module _ (k : Record) (q : Ask) (w : Wanted) where
         ),
       )
 
-  same_number : (a : Answer) → alloc_number (allocated a) ≡ answer_number a
-  same_number (answer.Done n) = refl
-  same_number (answer.Refused x) = refl
+  same_number : (a : Result ℕ EndpointAllocError) → alloc_number (allocated a) ≡ answer_number a
+  same_number (Ok n) = refl
+  same_number (Err x) = refl
 
-  kept : (a : Answer) → given.answer ≡ a → (alloc_number (allocated a) ≡ 0 → ⊥) → with_endpoints k given.endpoints ≡ k
-  kept (answer.Done n) e some = absurd (some refl)
-  kept (answer.Refused x) e some = ap (with_endpoints k) (refused_keeps (rows k.regs.board) k.endpoints q w x e)
+  kept : (a : Result ℕ EndpointAllocError) → given.answer ≡ a → (alloc_number (allocated a) ≡ 0 → ⊥) → with_endpoints k given.endpoints ≡ k
+  kept (Ok n) e some = absurd (some refl)
+  kept (Err x) e some = ap (with_endpoints k) (refused_keeps (rows k.regs.board) k.endpoints q w x e)
 
   allocates : (b : Bool) → record_sound k ≡ b → Allocates (unless_allocated (admission_by false b false) k (handed k given)) k given (alloc_rows k q w)
   unfolding Given

@@ -1,5 +1,6 @@
 -- `reset`, where it is answered, leaves what specs/Resetting.antt says: one endpoint after the other, each leaves what the others have.
 -- Assumes nothing.
+use Rattle.std.specs.Prelude.{Err, Ok}
 use Prim.Native.Nat.{ℕ, zero, suc, ◌<◌, ◌≤◌}
 use mathlib.Core.Path.{◌≡◌, refl, sym, ap, subst, ◌∙◌}
 use mathlib.Core.Bool.{Bool, true, false, ◌||◌, cond}
@@ -24,12 +25,9 @@ use Rattle.common_rules.specs.Enable.{isochronous, ep_tx_enable, ep_rx_enable}
 use Rattle.common_rules.specs.Enabling.{Raised, Ready, Enables, EnablesZero}
 use Rattle.common_rules.proofs.Enabling.{tx_enables, rx_enables, tx_enables_zero, rx_enables_zero}
 use Rattle.record.specs.declared.Record.{Record}
-use Rattle.record.specs.declared.Admission.{Admission}
-use Rattle.record.specs.declared.Admission.TheVariants.{Clear, Refused}
-use Rattle.record.specs.Record.{record_sound, admission_by, endpoints_in, endpoints_of}
+use Rattle.record.specs.Record.{record_sound, admission_by, endpoints_in, endpoints_of, Reply}
 use Rattle.record.proofs.Rows.{none_refused}
 use Rattle.record.proofs.Passing.{record_is_sound}
-use Rattle.record.specs.declared.Reply.TheVariants as reply
 use Rattle.call_rules.specs.Calls.{stored, unless, short, begun, idled}
 use Rattle.call_rules.specs.Reset.{tx_enabled, rx_enabled, used_enabled, enabled_below, reset_stores, reset_call}
 use Rattle.call_rules.specs.Resetting.{Resets}
@@ -279,18 +277,18 @@ module _ (es : List EndpointData) (g : Log) where
   }
   all_below (suc n) le six = one_more n (enabled_below es n g) (omega arith) (all_below n (omega arith) six)
 
-pub reset : (k : Record) (l : List ℕ) → Whole k.regs.words → (reset_call k l).call.answer ≡ reply.Done → Resets k (reset_call k l).call.«record»
+pub reset : (k : Record) (l : List ℕ) → Whole k.regs.words → (reset_call k l).call.answer ≡ (Ok tt) → Resets k (reset_call k l).call.«record»
 unfolding reset_call reset_stores endpoints_of endpoints_in idled
 reset k l six a = go (admission_by (short l) (record_sound k) false) refl a
   where
     low : length (rows k.regs.board) ≤ 6
     low = at_most_six k.regs.board
 
-    go : (t : Admission) → admission_by (short l) (record_sound k) false ≡ t
-        → (unless t k l (stored k (idled k.control_state) (reset_stores k (begun k l)))).call.answer ≡ reply.Done
+    go : (t : Reply Unit) → admission_by (short l) (record_sound k) false ≡ t
+        → (unless t k l (stored k (idled k.control_state) (reset_stores k (begun k l)))).call.answer ≡ (Ok tt)
         → Resets k (unless t k l (stored k (idled k.control_state) (reset_stores k (begun k l)))).call.«record»
-    go (Refused x) p q = not_refused q
-    go Clear p q =
+    go (Err x) p q = not_refused q
+    go (Ok tt) p q =
         let s = record_is_sound k (none_refused (short l) (record_sound k) false p).1 in
         let g = begun k l in
         let h = write_power g in

@@ -1,4 +1,5 @@
 -- `set_stalled`, where it is answered, leaves what specs/Stalling.antt says. Assumes nothing.
+use Rattle.std.specs.Prelude.{Err, Ok}
 use Prim.Native.Nat.{ℕ, ◌<◌}
 use mathlib.Core.Path.{◌≡◌, refl, subst, sym}
 use mathlib.Core.Bool.{Bool, true, false, ◌&&◌, cond}
@@ -14,11 +15,8 @@ use Rattle.store_rules.specs.Stores.{Log}
 use Rattle.common_rules.specs.Stalling.{Stalls, StallsZero}
 use Rattle.common_rules.proofs.Stalling.{tx_stalls, rx_stalls, tx_stalls_zero, rx_stalls_zero}
 use Rattle.record.specs.declared.Record.{Record}
-use Rattle.record.specs.declared.Admission.{Admission}
-use Rattle.record.specs.declared.Admission.TheVariants.{Clear, Refused}
-use Rattle.record.specs.Record.{record_sound, admission_by, endpoints_of}
+use Rattle.record.specs.Record.{record_sound, admission_by, endpoints_of, Reply}
 use Rattle.record.proofs.Rows.{none_refused}
-use Rattle.record.specs.declared.Reply.TheVariants as reply
 use Rattle.call_rules.specs.Calls.{stored, unless, short, begun, idled, beyond}
 use Rattle.call_rules.specs.Stall.{ep_stall, after_stall, set_stalled_call}
 use Rattle.call_rules.specs.Stalling.{SetStalled}
@@ -56,15 +54,15 @@ module _ (e : ℕ) (c : ControlState) where
       go false y p q = refl
 
 pub set_stalled_lem : (k : Record) (e : ℕ) (d : Direction) (b : Bool) (l : List ℕ) → Whole k.regs.words
-    → (set_stalled_call k e d b l).call.answer ≡ reply.Done → SetStalled k e d b l (set_stalled_call k e d b l)
+    → (set_stalled_call k e d b l).call.answer ≡ (Ok tt) → SetStalled k e d b l (set_stalled_call k e d b l)
 unfolding set_stalled_call endpoints_of
 set_stalled_lem k e d b l six a = go (admission_by (short l) (record_sound k) (beyond k e)) refl a
   where
-    go : (t : Admission) → admission_by (short l) (record_sound k) (beyond k e) ≡ t
-        → (unless t k l (stored k (after_stall e b k.control_state) (ep_stall d e b (begun k l)))).call.answer ≡ reply.Done
+    go : (t : Reply Unit) → admission_by (short l) (record_sound k) (beyond k e) ≡ t
+        → (unless t k l (stored k (after_stall e b k.control_state) (ep_stall d e b (begun k l)))).call.answer ≡ (Ok tt)
         → SetStalled k e d b l (unless t k l (stored k (after_stall e b k.control_state) (ep_stall d e b (begun k l))))
-    go (Refused x) p q = not_refused q
-    go Clear p q = record {
+    go (Err x) p q = not_refused q
+    go (Ok tt) p q = record {
       other = other e b (begun k l) six d (below_six k.regs.board e (none_refused (short l) (record_sound k) _ p).2);
       zero = zero e b (begun k l) six d;
       idle = idle e k.control_state b;

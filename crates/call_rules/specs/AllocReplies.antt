@@ -1,19 +1,19 @@
 -- Document 01's table of replies, the rows of `alloc_ep`, and what is promised of its answer.
 -- Assumes nothing.
-use Rattle.std.specs.Prelude.{◌≡◌, true, List, [], ◌∷◌}
+use Rattle.std.specs.Prelude.{ℕ, ◌≡◌, true, List, [], ◌∷◌, Option, Result}
+use Rattle.record.specs.declared.Answered.{Answered}
+use Rattle.call_rules.specs.declared.AllocRefusal.{AllocRefusal}
 use Rattle.board.specs.Boards.{rows}
-use Rattle.endpoints.specs.declared.Wanted.{Wanted}
-use Rattle.endpoints.specs.Endpoints.{Ask}
-use Rattle.endpoints.specs.declared.Allocated.{Allocated}
+use Rattle.endpoints.specs.declared.Ask.{Ask}
+use Rattle.endpoints.specs.Allocate.{Allocated}
 use Rattle.endpoints.specs.Replies as allocation
 use Rattle.record.specs.declared.Record.{Record}
 use Rattle.record.specs.Record.{SoundRecord}
 use Rattle.record.specs.Rows.{Row, row, Replies}
-use Rattle.call_rules.specs.declared.AllocCalled.{AllocCalled}
 use Rattle.call_rules.specs.Alloc.{handed, alloc_number}
 
 -- "Order: .. 16, .. allocation 2, 5, 3, 4", each row as alloc_endpoint's table has it; 1 is the row of a call that wants no number
-abbrev pub alloc_rows : Record → Ask → Wanted → List Row
+abbrev pub alloc_rows : Record → Ask → Option ℕ → List Row
 alloc_rows k q w =
     row 16 (SoundRecord k → ⊥)
     ∷ row 1 (allocation.Row1 (rows k.regs.board) k.endpoints q w)
@@ -25,7 +25,7 @@ alloc_rows k q w =
 
 -- its number is given exactly when its row is the first that holds, 0 where none does; then all is as alloc_endpoint leaves it; a refused call
 -- changes nothing
-pub record Allocates (a : AllocCalled) (k : Record) (o : Allocated) (rs : List Row) : Type 0 where
+pub record Allocates (a : Answered (Result ℕ AllocRefusal)) (k : Record) (o : Allocated) (rs : List Row) : Type 0 where
   pub replies : Replies (alloc_number a.answer) rs
   pub asked : alloc_number a.answer ≡ 0 → a ≡ handed k o
   pub unchanged : (alloc_number a.answer ≡ 0 → ⊥) → a.«record» ≡ k

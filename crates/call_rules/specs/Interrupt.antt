@@ -1,6 +1,7 @@
 -- `on_interrupt`: the snapshot of the three interrupt registers is read, then it is taken into the flags.
 -- Assumes nothing.
-use Rattle.std.specs.Prelude.{ℕ, ◌-◌, Bool, true, false, ◌||◌, cond}
+use Rattle.std.specs.Prelude.{ℕ, ◌-◌, Bool, true, false, ◌||◌, cond, Err, Ok}
+use Rattle.record.specs.declared.Answered.{Answered}
 use mathlib.Core.List.{foldl}
 use Rattle.laws.specs.Words.{bit, raised}
 use Rattle.board.specs.declared.Direction.TheVariants.{Out, In}
@@ -11,11 +12,8 @@ use Rattle.laws.specs.Lists.{numbers}
 use Rattle.record.specs.declared.Flags.{Flags}
 use Rattle.record.specs.declared.Refusal.TheVariants.{BadRecord}
 use Rattle.record.specs.declared.Record.{Record}
-use Rattle.record.specs.Record.{record_sound, endpoints_of}
+use Rattle.record.specs.Record.{record_sound, endpoints_of, Reply}
 use Rattle.call_rules.specs.declared.Snapshot.{Snapshot}
-use Rattle.record.specs.declared.Reply.{Reply}
-use Rattle.record.specs.declared.Reply.TheVariants.{Done, Refused}
-use Rattle.record.specs.declared.Answered.{Answered}
 
 -- `intrusb().read()`, `intrtx().read()`, `intrrx().read()`, in this order
 unfoldable pub snapshot_of : File → Snapshot
@@ -69,14 +67,10 @@ interrupted k = record {
 }
 
 -- what is answered: 16 for a record that does not pass
-abbrev pub answer_by : Bool → Reply
-answer_by true = Done
-answer_by false = Refused BadRecord
-
-abbrev pub interrupt_by : Bool → Record → Answered
-interrupt_by true k = record { answer = Done; «record» = interrupted k }
-interrupt_by false k = record { answer = Refused BadRecord; «record» = k }
+abbrev pub interrupt_by : Bool → Record → Answered (Reply Unit)
+interrupt_by true k = record { answer = (Ok tt); «record» = interrupted k }
+interrupt_by false k = record { answer = Err BadRecord; «record» = k }
 
 -- the whole outcome: refused with 16 alone
-unfoldable pub interrupt_call : Record → Answered
+unfoldable pub interrupt_call : Record → Answered (Reply Unit)
 interrupt_call k = interrupt_by (record_sound k) k

@@ -1,16 +1,13 @@
 -- What the call `reset` of the source's usb_device_impl/mod.rs gives back and leaves in the lent list, refused too.
 -- Assumes nothing.
 use Rattle.std.specs.Prelude.{ℕ, zero, suc, false, cond, List, get_or}
-use Rattle.board.specs.declared.Board.{Board}
-use Rattle.control_state.specs.declared.ControlState.{ControlState}
 use Rattle.endpoints.specs.declared.EndpointData.{EndpointData}
 use Rattle.endpoints.specs.Endpoints.{blank}
 use Rattle.store_rules.specs.Stores.{Log, write_power}
 use Rattle.common_rules.specs.Enable.{ep_tx_enable, ep_rx_enable}
-use Rattle.record.specs.declared.Flags.{Flags}
 use Rattle.record.specs.declared.Record.{Record}
-use Rattle.record.specs.Record.{record_sound, admission_by, endpoints_in, endpoints_of}
-use Rattle.call_rules.specs.Calls.{CallOutcome, stored, unless, short, begun, idled, Left, ran_stored, ran_unless, admitted}
+use Rattle.record.specs.Record.{record_sound, admission_by, endpoints_of}
+use Rattle.call_rules.specs.Calls.{CallOutcome, stored, unless, short, begun, idled}
 
 -- the body of `reset`'s `for_each`: `if ep.used_tx { .. }`, then `if ep.used_rx { .. }`
 unfoldable pub tx_enabled : ℕ → EndpointData → Log → Log
@@ -34,10 +31,3 @@ reset_stores k g = enabled_below k.endpoints (endpoints_of k) (write_power g)
 -- `reset`
 unfoldable pub reset_call : Record → List ℕ → CallOutcome
 reset_call k l = unless (admission_by (short l) (record_sound k) false) k l (stored k (idled k.control_state) (reset_stores k (begun k l)))
-
--- by the parts of the record
-unfoldable pub reset_in : Board → List EndpointData → Log → Log
-reset_in b es g = enabled_below es (endpoints_in b) (write_power g)
-
-unfoldable pub reset_ran : Board → ControlState → Flags → List EndpointData → Log → Left
-reset_ran b c f es g = ran_unless (admitted b f g false) c g (ran_stored (idled c) (reset_in b es g))

@@ -1,4 +1,5 @@
 -- What an account of a call is, and how one is put together from the call's steps. Assumes nothing.
+use Rattle.std.specs.Prelude.{Ok}
 use Prim.Native.Nat.{ℕ, ◌+◌, ◌^◌, ◌<◌, ◌≤◌}
 use mathlib.Core.Path.{◌≡◌, refl, ap, subst}
 use mathlib.Core.Bool.{Bool, true, false, not, cond}
@@ -26,7 +27,6 @@ use Rattle.control_state.specs.declared.ControlStateEnum.{ControlStateEnum}
 use Rattle.control_state.specs.declared.ControlStateEnum.TheVariants.{Idle, Setup, DataIn, DataOut, Accepted, NodataPhase}
 use Rattle.record.specs.declared.Flags.{Flags}
 use Rattle.record.specs.declared.Record.{Record}
-use Rattle.record.specs.declared.Admission.TheVariants.{Clear}
 use Rattle.record.specs.Record.{record_sound, endpoints_in, endpoints_of, admission_by}
 use Rattle.record.proofs.Rows.{none_refused}
 use Rattle.transfer_rules.specs.Peek.{short}
@@ -130,5 +130,5 @@ unfolding endpoints_of endpoints_in
 there k e p = leb-false (length (rows k.regs.board)) e p
 
 -- where the first tests refuse nothing, the endpoint is there
-pub below : (k : Record) (e : ℕ) (s p : Bool) → admission_by s p (leb (endpoints_of k) e) ≡ Clear → e < length (rows k.regs.board)
+pub below : (k : Record) (e : ℕ) (s p : Bool) → admission_by s p (leb (endpoints_of k) e) ≡ (Ok tt) → e < length (rows k.regs.board)
 below k e s p c = there k e (none_refused s p _ c).2

@@ -2,6 +2,9 @@
 -- makes the same. A call does so because no step of it looks at what is pending. Of the flags reply 16's test asks, which goes on passing, and one write raises one more,
 -- which is up whether it is raised before the interrupt or after. An event only raises more.
 -- Assumes nothing.
+use Rattle.std.specs.Prelude.{Err, Ok, Option, Result}
+use Rattle.record.specs.declared.Answered.{Answered}
+use Rattle.call_rules.specs.declared.AllocRefusal.{AllocRefusal}
 use Prim.Native.Nat.{ℕ, zero, suc}
 use mathlib.Core.Path.{◌≡◌, refl, sym, ap, ap₂, ◌∙◌}
 use mathlib.Core.Bool.{Bool, true, false}
@@ -19,15 +22,10 @@ use Rattle.common_rules.specs.Common.{is_stalled}
 use Rattle.common_rules.proofs.Pending.{bus_blind, tx_stall_blind, rx_stall_blind, stalled_unseen, tx_enable_blind, rx_enable_blind}
 use Rattle.control_state.specs.declared.ControlState.{ControlState}
 use Rattle.endpoints.specs.declared.EndpointData.{EndpointData}
-use Rattle.endpoints.specs.declared.Wanted.{Wanted}
-use Rattle.endpoints.specs.Endpoints.{Ask, blank}
+use Rattle.endpoints.specs.declared.Ask.{Ask}
+use Rattle.endpoints.specs.Endpoints.{blank}
 use Rattle.record.specs.declared.Record.{Record}
-use Rattle.record.specs.declared.Reply.TheVariants as reply
-use Rattle.record.specs.declared.Admission.{Admission}
-use Rattle.record.specs.declared.Admission.TheVariants.{Clear, Refused}
-use Rattle.record.specs.Record.{with_regs, with_control, passes, record_sound, admission_by, endpoints_of}
-use Rattle.call_rules.specs.declared.AllocCalled.{AllocCalled}
-use Rattle.call_rules.specs.declared.StalledAnswer.TheVariants as told
+use Rattle.record.specs.Record.{with_regs, with_control, passes, record_sound, admission_by, endpoints_of, Reply}
 use Rattle.call_rules.specs.Interrupt.{snapshot_of, cleared, taken, interrupted}
 use Rattle.call_rules.specs.Calls as impl
 use Rattle.call_rules.specs.Alloc as impl-alloc
@@ -83,13 +81,13 @@ stall_blind In e s = tx_stall_blind e s
 abbrev late_call : impl.CallOutcome → impl.CallOutcome
 late_call o = record { call = record { answer = o.call.answer; «record» = interrupted o.call.«record»; stores = o.call.stores }; list = o.list }
 
-served : (k : Record) (t : Admission) (c : ControlState) {φ : Log → Log} → Blind φ → (l : List ℕ)
+served : (k : Record) (t : Reply Unit) (c : ControlState) {φ : Log → Log} → Blind φ → (l : List ℕ)
     → impl.unless t (interrupted k) l (impl.stored (interrupted k) c (φ (impl.begun (interrupted k) l))) ≡ late_call (impl.unless t k l (impl.stored k c (φ (impl.begun k l))))
 unfolding interrupted
-served k (Refused x) c b l = refl
-served k Clear c {φ} b l =
+served k (Err x) c b l = refl
+served k (Ok tt) c {φ} b l =
     ap (impl.stored (interrupted k) c) (blind_quiet b (impl.begun k l))
-    ∙ ap (λ (j : Record). record { call = record { answer = reply.Done; «record» = j; stores = (φ (impl.begun k l)).count }; list = (φ (impl.begun k l)).list })
+    ∙ ap (λ (j : Record). record { call = record { answer = (Ok tt); «record» = j; stores = (φ (impl.begun k l)).count }; list = (φ (impl.begun k l)).list })
     (over k c (φ (impl.begun k l)).regs (blind_reads b (impl.begun k l)))
 
 module _ (k : Record) (p : record_sound k ≡ true) where
@@ -141,25 +139,25 @@ module _ (k : Record) (p : record_sound k ≡ true) where
       g : Log
       g = impl.begun k l
 
-      go : (t : Admission)
+      go : (t : Reply Unit)
           → impl-stall.unless_stalled t (interrupted k) l (impl-stall.stalled_of (interrupted k) (is_stalled d e (impl.begun (interrupted k) l)) (write_index e (impl.begun (interrupted k) l)))
           ≡ late_told (impl-stall.unless_stalled t k l (impl-stall.stalled_of k (is_stalled d e (impl.begun k l)) (write_index e (impl.begun k l))))
-      go (Refused x) = refl
-      go Clear =
+      go (Err x) = refl
+      go (Ok tt) =
           ap₂ (impl-stall.stalled_of (interrupted k)) (stalled_quiet d e g) (blind_quiet (blind (store.index e)) g)
-          ∙ ap (λ (j : Record). record { call = record { answer = told.Done (is_stalled d e g); «record» = j; stores = (write_index e g).count }; list = (write_index e g).list })
+          ∙ ap (λ (j : Record). record { call = record { answer = Ok (is_stalled d e g); «record» = j; stores = (write_index e g).count }; list = (write_index e g).list })
           (over k k.control_state (write_index e g).regs (blind_reads (blind (store.index e)) g))
 
 -- no list is lent, and no register stored
-abbrev late_alloc : AllocCalled → AllocCalled
+abbrev late_alloc : Answered (Result ℕ AllocRefusal) → Answered (Result ℕ AllocRefusal)
 late_alloc o = record { answer = o.answer; «record» = interrupted o.«record» }
 
 module _ (k : Record) (p : record_sound k ≡ true) where
-  pub alloc_ep_lem : (q : Ask) (w : Wanted) → impl-alloc.alloc_ep_call (interrupted k) q w ≡ late_alloc (impl-alloc.alloc_ep_call k q w)
+  pub alloc_ep_lem : (q : Ask) (w : Option ℕ) → impl-alloc.alloc_ep_call (interrupted k) q w ≡ late_alloc (impl-alloc.alloc_ep_call k q w)
   unfolding impl-alloc.alloc_ep_call impl-alloc.alloc_ep interrupted endpoints_of
   alloc_ep_lem q w = rw (still k p) (go (admission_by false (record_sound k) false))
     where
-      go : (t : Admission)
+      go : (t : Reply Unit)
           → impl-alloc.unless_allocated t (interrupted k) (impl-alloc.alloc_ep (interrupted k) q w) ≡ late_alloc (impl-alloc.unless_allocated t k (impl-alloc.alloc_ep k q w))
-      go (Refused x) = refl
-      go Clear = refl
+      go (Err x) = refl
+      go (Ok tt) = refl

@@ -1,5 +1,6 @@
 -- That an interrupt which was taken before stands aside, of the calls `write` and `read`: proofs/Aside.antt for the others.
 -- Assumes nothing.
+use Rattle.std.specs.Prelude.{Ok}
 use Prim.Native.Nat.{ℕ}
 use mathlib.Core.Path.{◌≡◌, refl, sym, ap, ap₂, ◌∙◌}
 use mathlib.Core.Bool.{Bool, true, false, not, ◌&&◌, cond}
@@ -22,14 +23,11 @@ use Rattle.control_state.specs.declared.ControlStateEnum.TheVariants.{Idle, Setu
 use Rattle.control_state.specs.Control.{decreased}
 use Rattle.record.specs.declared.Flags.{Flags}
 use Rattle.record.specs.declared.Record.{Record}
-use Rattle.record.specs.Record.{with_tx, admission_by, record_sound, endpoints_in, endpoints_of}
+use Rattle.record.specs.Record.{with_tx, admission_by, record_sound, endpoints_in, endpoints_of, Reply}
 use Rattle.call_rules.specs.declared.Snapshot.{Snapshot}
 use Rattle.call_rules.specs.Interrupt.{snapshot_of, cleared, taken, interrupted}
 use Rattle.call_rules.proofs.Late.{taken_beside}
 use Rattle.transfer_rules.specs.declared.Verdict.{Verdict}
-use Rattle.transfer_rules.specs.declared.WriteAnswer.{WriteAnswer}
-use Rattle.transfer_rules.specs.declared.ReadAnswer.{ReadAnswer}
-use Rattle.transfer_rules.specs.declared.ReadAnswer.TheVariants.{Done as ReadDone}
 use Rattle.transfer_rules.specs.declared.Verdict.TheVariants as verdict
 use Rattle.transfer_rules.specs.Peek.{After, after, leaving, blocked, ended, tests_by, short_in}
 use Rattle.transfer_rules.specs.WriteTests as writing
@@ -124,7 +122,7 @@ blocked_aside e c = plain_aside c (blind (store.index e))
 abbrev late_write : write.WriteOutcome → write.WriteOutcome
 late_write o = record { result = record { answer = o.result.answer; «record» = interrupted o.result.«record»; stores = o.result.stores }; fifo = o.fifo; list = o.list }
 
-abbrev wrote : WriteAnswer → List ℕ → Record → ℕ → List ℕ → write.WriteOutcome
+abbrev wrote : Reply ℕ → List ℕ → Record → ℕ → List ℕ → write.WriteOutcome
 wrote a x j n l = record { result = record { answer = a; «record» = j; stores = n }; fifo = x; list = l }
 
 module _ (k : Record) (p : record_sound k ≡ true) where
@@ -178,7 +176,7 @@ got_aside e x n size c =
 abbrev late_read : read.ReadOutcome → read.ReadOutcome
 late_read o = record { result = record { answer = o.result.answer; «record» = interrupted o.result.«record»; stores = o.result.stores }; list = o.list; buf = o.buf }
 
-abbrev fetched : ReadAnswer → List ℕ → Record → ℕ → List ℕ → read.ReadOutcome
+abbrev fetched : Reply ℕ → List ℕ → Record → ℕ → List ℕ → read.ReadOutcome
 fetched a x j n l = record { result = record { answer = a; «record» = j; stores = n }; list = l; buf = x }
 
 module _ (k : Record) (p : record_sound k ≡ true) where
@@ -197,7 +195,7 @@ module _ (k : Record) (p : record_sound k ≡ true) where
   unfolding read.read_done
   read_by_lem verdict.Clear e x y l =
       ap (λ (t : Side). read.outcome (interrupted k) (record {
-        answer = ReadDone t.len;
+        answer = Ok t.len;
         buf = read.copied k.regs.board e t.len x y;
         after = read.got e (read.copied k.regs.board e t.len x y) t.len (rx_size k) k.control_state (flags k) (write_index e (log (cleared k.regs.words) l 0));
       }))

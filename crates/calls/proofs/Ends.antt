@@ -1,4 +1,7 @@
 -- How every operation ends: done, refused by one of its numbers with everything as it was, or blocked. Assumes nothing.
+use Rattle.std.specs.Prelude.{Err, None, Ok, Option, Result, Some}
+use Rattle.board.specs.declared.Span.{Span}
+use Rattle.record.specs.declared.Answered.{Answered}
 use Prim.Native.Nat.{ℕ, zero, suc, ◌≤◌}
 use mathlib.Core.Path.{◌≡◌, refl, sym, ap, subst, ◌∙◌}
 use mathlib.Core.Bool.{Bool, true, false, or-true}
@@ -17,13 +20,9 @@ use Rattle.store_rules.proofs.Promises.{index_selects, index_lists}
 use Rattle.store_list.proofs.Promises.{listed_first}
 use Rattle.endpoints.specs.declared.EndpointAllocError.{EndpointAllocError}
 use Rattle.endpoints.specs.declared.EndpointAllocError.TheVariants.{EndpointOverflow, InvalidEndpoint, EpDirNotSupported, EpUsed, MaxPacketSizeBiggerThanEpFifoSize}
-use Rattle.endpoints.specs.declared.Allocated.{Allocated}
+use Rattle.endpoints.specs.Allocate.{Allocated}
 use Rattle.endpoints.specs.declared.EndpointData.{EndpointData}
-use Rattle.endpoints.specs.declared.Answer.{Answer}
-use Rattle.endpoints.specs.declared.Answer.TheVariants as answer
-use Rattle.endpoints.specs.declared.Wanted.{Wanted}
-use Rattle.endpoints.specs.declared.Wanted.TheVariants.{Any, Number}
-use Rattle.endpoints.specs.Endpoints.{Ask}
+use Rattle.endpoints.specs.declared.Ask.{Ask}
 use Rattle.endpoints.specs.Allocate.{allocate}
 use Rattle.endpoints.specs.Numbers.{error_number, answer_number}
 use Rattle.endpoints.specs.Replies as allocation
@@ -33,11 +32,8 @@ use Rattle.transfer_rules.specs.declared.Verdict.{Verdict}
 use Rattle.transfer_rules.specs.Peek.{short, tests_by, blocked as blockedAfter}
 use Rattle.transfer_rules.proofs.Lent.{lent_enough}
 use Rattle.record.specs.declared.Record.{Record}
-use Rattle.record.specs.declared.Admission.{Admission}
 use Rattle.record.specs.Rows.{Row, Given, Replies}
-use Rattle.record.specs.Record.{record_sound, admission_by, endpoints_of, with_regs, with_endpoints, reply_number}
-use Rattle.call_rules.specs.declared.StalledAnswer.{StalledAnswer}
-use Rattle.call_rules.specs.declared.StalledAnswer.TheVariants as stalled
+use Rattle.record.specs.Record.{record_sound, admission_by, endpoints_of, with_regs, with_endpoints, reply_number, Reply}
 use Rattle.call_rules.specs.Calls as impl
 use Rattle.call_rules.specs.Alloc as impl-alloc
 use Rattle.call_rules.specs.Stall as impl-stall
@@ -61,9 +57,6 @@ use Rattle.transfer_rules.proofs.ReadAnswers as reads
 use Rattle.call_rules.specs.Interrupt.{interrupt_by, interrupt_call}
 use Rattle.round_rules.specs.Poll.{PollOutcome, outcome_of, poll_number, poll_when, poll_admitted, poll_call}
 use Rattle.round_rules.proofs.PollReplies as polls
-use Rattle.record.specs.declared.Answered.{Answered}
-use Rattle.host_rules.specs.declared.CollectAnswer.{CollectAnswer}
-use Rattle.host_rules.specs.declared.CollectAnswer.TheVariants as collect
 use Rattle.host_rules.specs.Host as host
 use Rattle.host_rules.specs.Replies as event-rows
 use Rattle.host_rules.proofs.Replies as events
@@ -89,13 +82,13 @@ given_among n (r ∷ rs) (inl g) = rw (eq-eqb n r.number g.1)
 given_among n (r ∷ rs) (inr g) = rw (given_among n rs g.1) (or-true (eqb n r.number))
 
 -- a refused call has no values
-no_told : (a : StalledAnswer) → (impl-stall.stalled_number a ≡ 0 → ⊥) → impl-stall.stalled_values a ≡ []
-no_told (stalled.Done b) n = absurd (n refl)
-no_told (stalled.Refused x) n = refl
+no_told : (a : Reply Bool) → (impl-stall.stalled_number a ≡ 0 → ⊥) → impl-stall.stalled_values a ≡ []
+no_told (Ok b) n = absurd (n refl)
+no_told (Err x) n = refl
 
-no_taken : (a : CollectAnswer) (f : List ℕ) → (host.collect_number a ≡ 0 → ⊥) → host.collect_values a f ≡ []
-no_taken (collect.Done start len) f n = absurd (n refl)
-no_taken (collect.Refused x) f n = refl
+no_taken : (a : Reply Span) (f : List ℕ) → (host.collect_number a ≡ 0 → ⊥) → host.collect_values a f ≡ []
+no_taken (Ok s) f n = absurd (n refl)
+no_taken (Err x) f n = refl
 
 -- a call whose replies are its rows', 6 not among them: where it is refused, all is as it was
 module _ (k : Record) (o : Op) (rs : List Row) (is : numbers rs ≡ replies o) (no_six : among 6 (replies o) ≡ false) where
@@ -127,7 +120,7 @@ module _ (k : Record) (o : Op) (rs : List Row) (is : numbers rs ≡ replies o) (
         buf = [];
       }) ∙ ap (unchanged (impl-stall.stalled_number a.call.answer) k) (sym p))
 
-  answered_ends : {a : Answered} → lent o ≡ none_lent → event-rows.Answers a k rs → Ends k o (answered a)
+  answered_ends : {a : Answered (Reply Unit)} → lent o ≡ none_lent → event-rows.Answers a k rs → Ends k o (answered a)
   answered_ends {a} p t =
       by_rows t.replies
       (λ n. ap (λ (q : Record). answered (record { answer = a.answer; «record» = q })) (t.unchanged n) ∙ ap (unchanged (reply_number a.answer) k) (sym p))
@@ -166,36 +159,36 @@ error_other EpDirNotSupported = refl
 error_other EpUsed = refl
 error_other MaxPacketSizeBiggerThanEpFifoSize = refl
 
-error_among : (b : Board) (es : List EndpointData) (q : Ask) (w : Wanted) (x : EndpointAllocError) → allocation.Given (rows b) es q x w
+error_among : (b : Board) (es : List EndpointData) (q : Ask) (w : Option ℕ) (x : EndpointAllocError) → allocation.Given (rows b) es q x w
     → among (error_number x) (alloc_replies w) ≡ true
-error_among b es q Any EndpointOverflow g = refl
-error_among b es q Any InvalidEndpoint g = clash (sym g)
-error_among b es q Any MaxPacketSizeBiggerThanEpFifoSize g = clash (sym g.1)
-error_among b es q Any EpDirNotSupported g = clash (sym g.2)
-error_among b es q Any EpUsed g = clash (sym g.3)
-error_among b es q (Number zero) EndpointOverflow g = let z : ◌≡◌ {A = ℕ} 0 1 = cc in absurd (omega arith)
-error_among b es q (Number zero) InvalidEndpoint g = absurd (omega (arith, leb-true (length (rows b)) 0 g, at_least_one b))
-error_among b es q (Number zero) MaxPacketSizeBiggerThanEpFifoSize g = clash (sym g.1)
-error_among b es q (Number zero) EpDirNotSupported g = clash (sym g.2)
-error_among b es q (Number zero) EpUsed g = clash (sym g.3)
-error_among b es q (Number (suc n)) EndpointOverflow g = let z : ◌≡◌ {A = ℕ} 0 1 = cc in absurd (omega arith)
-error_among b es q (Number (suc n)) InvalidEndpoint g = refl
-error_among b es q (Number (suc n)) MaxPacketSizeBiggerThanEpFifoSize g = refl
-error_among b es q (Number (suc n)) EpDirNotSupported g = refl
-error_among b es q (Number (suc n)) EpUsed g = refl
+error_among b es q None EndpointOverflow g = refl
+error_among b es q None InvalidEndpoint g = clash (sym g)
+error_among b es q None MaxPacketSizeBiggerThanEpFifoSize g = clash (sym g.1)
+error_among b es q None EpDirNotSupported g = clash (sym g.2)
+error_among b es q None EpUsed g = clash (sym g.3)
+error_among b es q (Some zero) EndpointOverflow g = let z : ◌≡◌ {A = ℕ} 0 1 = cc in absurd (omega arith)
+error_among b es q (Some zero) InvalidEndpoint g = absurd (omega (arith, leb-true (length (rows b)) 0 g, at_least_one b))
+error_among b es q (Some zero) MaxPacketSizeBiggerThanEpFifoSize g = clash (sym g.1)
+error_among b es q (Some zero) EpDirNotSupported g = clash (sym g.2)
+error_among b es q (Some zero) EpUsed g = clash (sym g.3)
+error_among b es q (Some (suc n)) EndpointOverflow g = let z : ◌≡◌ {A = ℕ} 0 1 = cc in absurd (omega arith)
+error_among b es q (Some (suc n)) InvalidEndpoint g = refl
+error_among b es q (Some (suc n)) MaxPacketSizeBiggerThanEpFifoSize g = refl
+error_among b es q (Some (suc n)) EpDirNotSupported g = refl
+error_among b es q (Some (suc n)) EpUsed g = refl
 
-alloc_among : (w : Wanted) → (among 0 (alloc_replies w) ≡ true) × (among 16 (alloc_replies w) ≡ true)
-alloc_among Any = (refl, refl)
-alloc_among (Number zero) = (refl, refl)
-alloc_among (Number (suc n)) = (refl, refl)
+alloc_among : (w : Option ℕ) → (among 0 (alloc_replies w) ≡ true) × (among 16 (alloc_replies w) ≡ true)
+alloc_among None = (refl, refl)
+alloc_among (Some zero) = (refl, refl)
+alloc_among (Some (suc n)) = (refl, refl)
 
-module _ (k : Record) (q : Ask) (w : Wanted) where
+module _ (k : Record) (q : Ask) (w : Option ℕ) where
   abbrev given : Allocated
   given = allocate (rows k.regs.board) k.endpoints q w
 
-  handed_ends : (a : Answer) → given.answer ≡ a → Ends k (alloc_ep q w) (allocated (impl-alloc.handed k given))
-  handed_ends (answer.Done n) e = done (alloc_among w).0 (ap (λ (a : Answer). impl-alloc.alloc_number (impl-alloc.allocated a)) e)
-  handed_ends (answer.Refused x) e =
+  handed_ends : (a : Result ℕ EndpointAllocError) → given.answer ≡ a → Ends k (alloc_ep q w) (allocated (impl-alloc.handed k given))
+  handed_ends (Ok n) e = done (alloc_among w).0 (ap (λ (a : Result ℕ EndpointAllocError). impl-alloc.alloc_number (impl-alloc.allocated a)) e)
+  handed_ends (Err x) e =
       refused (error_number x) (error_other x)
       (error_among k.regs.board k.endpoints q w x ((alloc.exactly (rows k.regs.board) k.endpoints q w x).0 (ap answer_number e)))
       (λ i. allocated (record { answer = impl-alloc.allocated (e i); «record» = with_endpoints k (refused_keeps (rows k.regs.board) k.endpoints q w x e i) }))
@@ -210,7 +203,7 @@ module _ (k : Record) (q : Ask) (w : Wanted) where
 
 -- write and read by their tests, one beside the other
 module _ (k : Record) (e : ℕ) (b f l : List ℕ) where
-  abbrev first : Admission
+  abbrev first : Reply Unit
   first = admission_by (short k (length f) (length l)) (record_sound k) (leb (endpoints_of k) e)
 
   abbrev write_tests : Verdict

@@ -1,6 +1,7 @@
 -- The accounts of the host's events and of `on_interrupt`: refused, or the model's own event on the registers, with the flags as they were;
 -- the interrupt reads its registers, and takes no flag above the last endpoint's.
 -- Assumes nothing.
+use Rattle.std.specs.Prelude.{Err, Ok}
 use Prim.Native.Nat.{ℕ, ◌≤◌, ◌<◌}
 use mathlib.Core.Path.{◌≡◌, refl, ◌∙◌}
 use mathlib.Core.Bool.{true, false, cond}
@@ -25,9 +26,7 @@ use Rattle.event_rules.specs.Promise.{Event, arrival, collection, on_bus, setupe
 use Rattle.event_rules.proofs.Promises.{sides, rest, usb_read, usb_rest, word_read, word_rest}
 use Rattle.event_rules.proofs.Others.{clean, usb_clean, word_clean}
 use Rattle.record.specs.declared.Record.{Record}
-use Rattle.record.specs.declared.Admission.{Admission}
-use Rattle.record.specs.declared.Admission.TheVariants.{Clear, Refused}
-use Rattle.record.specs.Record.{record_sound, admission_by, area_in, area_of, endpoints_in, endpoints_of}
+use Rattle.record.specs.Record.{record_sound, admission_by, area_in, area_of, endpoints_in, endpoints_of, Reply}
 use Rattle.record.proofs.Rows.{none_refused}
 use Rattle.host_rules.specs.Host as host
 use Rattle.host_rules.proofs.Host as laws
@@ -89,9 +88,9 @@ module _ (k : Record) where
   abbrev b : Board
   b = k.regs.board
 
-  unless_refused : (o : Event) (t : Admission) → (t ≡ Clear → (at o < 6) × Fits b o) → Happens o k (host.unless t k (happens o k.regs.words)).«record»
-  unless_refused o (Refused x) f = refused refl
-  unless_refused o Clear f = let p = f refl in happened p.0 p.1 refl refl refl
+  unless_refused : (o : Event) (t : Reply Unit) → (t ≡ (Ok tt) → (at o < 6) × Fits b o) → Happens o k (host.unless t k (happens o k.regs.words)).«record»
+  unless_refused o (Err x) f = refused refl
+  unless_refused o (Ok tt) f = let p = f refl in happened p.0 p.1 refl refl refl
 
   pub bus_reset_lem : Happens (on_bus Reset) k (host.bus_reset_call k).«record»
   unfolding host.bus_reset_call bus_reset
@@ -124,22 +123,22 @@ module _ (k : Record) where
   overrun e = missed e Out
 
   -- arrival and collection have tests of their own after the first ones
-  arrives : (e n m : ℕ) → host.arrival_refusal k e n m ≡ Clear → (e < 6) × (n ≤ (area_at (rows b) e Out).size)
+  arrives : (e n m : ℕ) → host.arrival_refusal k e n m ≡ (Ok tt) → (e < 6) × (n ≤ (area_at (rows b) e Out).size)
   unfolding host.arrival_refusal host.arrival_refusal_in area_in area_of
   arrives e n m p =
       let q = laws.arrival_passed (host.entry_at k e m) (ltb (area_of k e Out).size n) (side_at k.regs.words e Out).ready p in
       ((laws.admitted k e m q.0).below, ltb-false _ _ q.1)
 
-  unless_arrived_lem : (e n : ℕ) (f x : List ℕ) (t : Admission) → (t ≡ Clear → (e < 6) × (n ≤ (area_at (rows b) e Out).size))
+  unless_arrived_lem : (e n : ℕ) (f x : List ℕ) (t : Reply Unit) → (t ≡ (Ok tt) → (e < 6) × (n ≤ (area_at (rows b) e Out).size))
       → Happens (arrival e n) k (host.unless_arrived t k f (record { event = host.done k (arrived k.regs.words e n); fifo = x })).event.«record»
-  unless_arrived_lem e n f x (Refused y) h = refused refl
-  unless_arrived_lem e n f x Clear h = let q = h refl in happened q.0 q.1 refl refl refl
+  unless_arrived_lem e n f x (Err y) h = refused refl
+  unless_arrived_lem e n f x (Ok tt) h = let q = h refl in happened q.0 q.1 refl refl refl
 
   pub arrival_comes : (e : ℕ) (x f : List ℕ) → Happens (arrival e (length x)) k (host.arrival_call k e x f).event.«record»
   unfolding host.arrival_call
   arrival_comes e x f = unless_arrived_lem e (length x) f _ (host.arrival_refusal k e (length x) (length f)) (arrives e (length x) (length f))
 
-  collects : (e m : ℕ) → host.collection_refusal k e m ≡ Clear → e < 6
+  collects : (e m : ℕ) → host.collection_refusal k e m ≡ (Ok tt) → e < 6
   unfolding host.collection_refusal host.collection_refusal_in
   collects e m p = (laws.admitted k e m (laws.collection_passed (host.entry_at k e m) (side_at k.regs.words e In).ready p)).below
 
@@ -147,9 +146,9 @@ module _ (k : Record) where
   unfolding host.collection_call host.collected_from
   collection_comes e f = go (host.collection_refusal k e (length f)) refl
     where
-      go : (t : Admission) → host.collection_refusal k e (length f) ≡ t → Happens (collection e) k (host.unless_collected t k (host.collected_from k e)).«record»
-      go (Refused y) p = refused refl
-      go Clear p = happened (collects e (length f) p) tt refl refl refl
+      go : (t : Reply Unit) → host.collection_refusal k e (length f) ≡ t → Happens (collection e) k (host.unless_collected t k (host.collected_from k e)).«record»
+      go (Err y) p = refused refl
+      go (Ok tt) p = happened (collects e (length f) p) tt refl refl refl
 
 -- "Interrupt registers clear when read": nothing else of the registers changes
 pub cleared_side : (r : File) (e : ℕ) (d : Direction) → side_at (cleared r) e d ≡ side_at r e d

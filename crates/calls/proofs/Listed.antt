@@ -1,4 +1,7 @@
 -- What an operation has done to the registers is what it lists. Assumes nothing.
+use Rattle.std.specs.Prelude.{Err, Ok}
+use Rattle.board.specs.declared.Span.{Span}
+use Rattle.record.specs.declared.Answered.{Answered}
 use Prim.Native.Nat.{ℕ, ◌+◌, ◌*◌, ◌≤◌}
 use mathlib.Core.Path.{◌≡◌, refl, sym, ap, subst, ◌∙◌}
 use mathlib.Core.Bool.{Bool, true, false, not, cond}
@@ -23,13 +26,9 @@ use Rattle.event_rules.specs.Promise as events
 use Rattle.event_rules.specs.Promise.{Event, happens}
 use Rattle.record.specs.declared.Record.{Record}
 use Rattle.record.specs.declared.Refusal.{Refusal}
-use Rattle.record.specs.declared.Admission.{Admission}
-use Rattle.record.specs.declared.Admission.TheVariants.{Clear, Refused}
-use Rattle.record.specs.Record.{record_sound, admission_by, refusal_number, reply_number}
+use Rattle.record.specs.Record.{record_sound, admission_by, refusal_number, reply_number, Reply}
 use Rattle.record.proofs.Numbers.{not_zero}
 use Rattle.call_rules.specs.Interrupt.{cleared, interrupted, interrupt_by, interrupt_call}
-use Rattle.record.specs.declared.Answered.{Answered}
-use Rattle.host_rules.specs.declared.CollectCalled.{CollectCalled}
 use Rattle.host_rules.specs.Host as host
 use Rattle.calls.specs.Calls.{Op, alloc_ep, bus_init, enable, reset, set_device_address, write, read, set_stalled, is_stalled, poll, on_interrupt, force_reset, arrival, collection, bus_reset, suspend, resume, setup_end, underrun, overrun, outcome, step}
 use Rattle.calls.specs.Demand.{lent}
@@ -114,35 +113,35 @@ module _ (k : Record) where
   abbrev Left : ℕ → File → File → Type 0
   Left reply q x = q ≡ cond (eqb reply 0) x r
 
-  abbrev Happened : Answered → File → Type 0
+  abbrev Happened : Answered (Reply Unit) → File → Type 0
   Happened a x = Left (reply_number a.answer) a.«record».regs.words x
 
-  abbrev Fetched : CollectCalled → File → Type 0
+  abbrev Fetched : Answered (Reply Span) → File → Type 0
   Fetched a x = Left (host.collect_number a.answer) a.«record».regs.words x
 
   not_done : (y : Refusal) (x : File) → Left (refusal_number y) r x
   not_done y x = rw (ne_eqb (refusal_number y) 0 (not_zero y))
 
-  happens_left : (v : Event) (t : Admission) → Happened (host.unless t k (happens v r)) (happens v r)
-  happens_left v (Refused y) = not_done y (happens v r)
-  happens_left v Clear = refl
+  happens_left : (v : Event) (t : Reply Unit) → Happened (host.unless t k (happens v r)) (happens v r)
+  happens_left v (Err y) = not_done y (happens v r)
+  happens_left v (Ok tt) = refl
 
-  arrival_left : (v : Event) (f x : List ℕ) (t : Admission)
+  arrival_left : (v : Event) (f x : List ℕ) (t : Reply Unit)
       → Happened (host.unless_arrived t k f (record { event = host.done k (happens v r); fifo = x })).event (happens v r)
-  arrival_left v f x (Refused y) = not_done y (happens v r)
-  arrival_left v f x Clear = refl
+  arrival_left v f x (Err y) = not_done y (happens v r)
+  arrival_left v f x (Ok tt) = refl
 
-  collection_left : (e : ℕ) (t : Admission) → Fetched (host.unless_collected t k (host.collected_from k e)) (happens (events.collection e) r)
+  collection_left : (e : ℕ) (t : Reply Unit) → Fetched (host.unless_collected t k (host.collected_from k e)) (happens (events.collection e) r)
   unfolding host.collected_from
-  collection_left e (Refused y) = not_done y (happens (events.collection e) r)
-  collection_left e Clear = refl
+  collection_left e (Err y) = not_done y (happens (events.collection e) r)
+  collection_left e (Ok tt) = refl
 
   interrupt_left : (b : Bool) → Happened (interrupt_by b k) (unlisted on_interrupt r)
   unfolding interrupted cleared
   interrupt_left true = refl
   interrupt_left false = refl
 
-  abbrev plain : Admission
+  abbrev plain : Reply Unit
   plain = admission_by false (record_sound k) false
 
   pub others : (o : Op) → (Stores o → ⊥) → Unlisted k o

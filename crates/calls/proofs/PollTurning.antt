@@ -1,4 +1,6 @@
 -- What poll makes of the control state and of SetupEnd: specs/Control.antt says. Assumes nothing.
+use Rattle.std.specs.Prelude.{Err, Ok}
+use Rattle.round_rules.specs.declared.PollResult.{PollResult}
 use Prim.Native.Nat.{ℕ, ◌+◌, ◌-◌, ◌*◌}
 use mathlib.Core.Path.{◌≡◌, refl, sym, ap, subst, ◌∙◌}
 use mathlib.Core.Bool.{Bool, true, false, not, ◌&&◌, ◌||◌, and-false, cond}
@@ -27,13 +29,10 @@ use Rattle.control_state.specs.declared.ControlStateEnum.TheVariants.{Idle, Setu
 use Rattle.control_state.specs.Control.{with_state, with_tx_len}
 use Rattle.record.specs.declared.Flags.{Flags}
 use Rattle.record.specs.declared.Record.{Record}
-use Rattle.record.specs.declared.Admission.{Admission}
-use Rattle.record.specs.declared.Admission.TheVariants.{Clear, Refused}
-use Rattle.record.specs.Record.{record_sound, passes, admission_by, endpoints_in, list_need, with_ep0}
+use Rattle.record.specs.Record.{record_sound, passes, admission_by, endpoints_in, list_need, with_ep0, Reply}
 use Rattle.record.proofs.Numbers.{not_zero}
 use Rattle.record.proofs.Rows.{none_refused}
 use Rattle.common_rules.specs.Overrun.{repaired_below, check_overrun}
-use Rattle.round_rules.specs.declared.PollAnswer.{PollAnswer}
 use Rattle.round_rules.specs.declared.PollResult.TheVariants.{None, Data}
 use Rattle.round_rules.specs.Zero.{Round, round, setup_taken, restarted, cut_short, received_by, zero_by, zero_served, endpoint_zero, accepted_by, accept_step}
 use Rattle.round_rules.specs.Walk.{Walk, walk, visit, walked}
@@ -146,7 +145,7 @@ told_setup out tx s = go (not (eqb tx 0)) (not (eqb out 0)) s
     go false false false = refl
 
 module _ (k : Record) (l : List ℕ) where
-  abbrev reports : PollAnswer → Bool
+  abbrev reports : Reply PollResult → Bool
   reports a = eqb (get_or (poll_values a) 3 0) 1
 
   -- what a served poll leaves: its turn, and no SetupEnd where it reports Setup
@@ -232,11 +231,11 @@ module _ (k : Record) (l : List ℕ) where
     by_flags false false true = record { turns = inr (inr refl); cleared = λ p. clash (sym p) }
     by_flags false false false = round_turns
 
-    by_tests : (t : Admission) → poll_number (poll_when t k.regs.board begun k.control_state k.irq).answer ≡ 0
+    by_tests : (t : Reply Unit) → poll_number (poll_when t k.regs.board begun k.control_state k.irq).answer ≡ 0
         → Served (poll_when t k.regs.board begun k.control_state k.irq)
     unfolding poll_served poll_logged
-    by_tests (Refused x) p = absurd (not_zero x p)
-    by_tests Clear p = by_flags k.irq.reset k.irq.resume k.irq.suspend
+    by_tests (Err x) p = absurd (not_zero x p)
+    by_tests (Ok tt) p = by_flags k.irq.reset k.irq.resume k.irq.suspend
 
     served : (outcome k (poll l)).reply ≡ 0 → Served (poll_admitted k.regs.board k.regs.words l k.control_state k.irq)
     unfolding poll_call poll_admitted
@@ -255,7 +254,7 @@ module _ (k : Record) (l : List ℕ) where
   unfolding poll_call poll_admitted record_sound
   poll_sound p = go (admission_by (ltb (length l) list_need) (record_sound k) false) refl p
     where
-      go : (t : Admission) → admission_by (ltb (length l) list_need) (record_sound k) false ≡ t
+      go : (t : Reply Unit) → admission_by (ltb (length l) list_need) (record_sound k) false ≡ t
           → poll_number (poll_when t k.regs.board begun k.control_state k.irq).answer ≡ 0 → record_sound k ≡ true
-      go (Refused x) e z = absurd (not_zero x z)
-      go Clear e z = (none_refused (ltb (length l) list_need) (record_sound k) false e).1
+      go (Err x) e z = absurd (not_zero x z)
+      go (Ok tt) e z = (none_refused (ltb (length l) list_need) (record_sound k) false e).1

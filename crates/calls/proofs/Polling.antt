@@ -1,4 +1,5 @@
 -- The account of `poll`: the overrun check, endpoint 0, and the index stores of the walk; and its flags. Assumes nothing.
+use Rattle.std.specs.Prelude.{Err, Ok}
 use Prim.Native.Nat.{ℕ, zero, suc, ◌+◌, ◌-◌, ◌*◌, ◌^◌, ◌≤◌, ◌<◌}
 use mathlib.Core.Path.{◌≡◌, refl, sym, ◌∙◌}
 use mathlib.Core.Bool.{Bool, true, false, cond}
@@ -27,9 +28,7 @@ use Rattle.control_state.specs.declared.ControlStateEnum.{ControlStateEnum}
 use Rattle.control_state.specs.declared.ControlStateEnum.TheVariants.{Idle, Setup, DataIn, DataOut, Accepted, NodataPhase}
 use Rattle.record.specs.declared.Flags.{Flags}
 use Rattle.record.specs.declared.Record.{Record}
-use Rattle.record.specs.declared.Admission.{Admission}
-use Rattle.record.specs.declared.Admission.TheVariants.{Clear, Refused}
-use Rattle.record.specs.Record.{record_sound, admission_by, endpoints_in, with_ep0}
+use Rattle.record.specs.Record.{record_sound, admission_by, endpoints_in, with_ep0, Reply}
 use Rattle.record.proofs.Passing.{record_is_sound}
 use Rattle.record.proofs.Rows.{none_refused}
 use Rattle.round_rules.specs.Zero.{Round, round, sent_by, setup_taken, restarted, cut_short, received_by, zero_by, zero_served, endpoint_zero, put_back, accepted_by, accept_step}
@@ -218,10 +217,10 @@ module _ (k : Record) (l : List ℕ) where
   unfolding poll_call poll_admitted record_sound
   poll = go (admission_by (ltb (length l) 384) (record_sound k) false) refl
     where
-      go : (t : Admission) → admission_by (ltb (length l) 384) (record_sound k) false ≡ t
+      go : (t : Reply Unit) → admission_by (ltb (length l) 384) (record_sound k) false ≡ t
           → Accounted (outcome_of k (poll_when t board start k.control_state k.irq))
-      go (Refused x) e = left refl refl
-      go Clear e =
+      go (Err x) e = left refl refl
+      go (Ok tt) e =
           let t = none_refused (ltb (length l) 384) (record_sound k) false e in
           let p = ends (low t.1) in
           record { path = p.0; board = refl; served = inr (t.1, ltb-false _ _ t.0); flags = λ _. p.1 }

@@ -1,4 +1,5 @@
 -- The accounts of the simple calls: which stores each makes. Assumes nothing.
+use Rattle.std.specs.Prelude.{Err, Ok, Option}
 use Prim.Native.Nat.{ℕ, zero, suc, ◌+◌, ◌*◌, ◌<◌, ◌≤◌}
 use mathlib.Core.Path.{◌≡◌, refl, subst}
 use mathlib.Core.Bool.{Bool, true, false, not}
@@ -21,17 +22,15 @@ use Rattle.register_file.proofs.Modified.{sets_data_end}
 use Rattle.csr.specs.Control.{csr0l_bits, txcsrl_bits, rxcsrl_bits}
 use Rattle.control_state.specs.declared.ControlState.{ControlState}
 use Rattle.endpoints.specs.declared.EndpointData.{EndpointData}
-use Rattle.endpoints.specs.declared.Wanted.{Wanted}
-use Rattle.endpoints.specs.Endpoints.{Ask, blank}
+use Rattle.endpoints.specs.declared.Ask.{Ask}
+use Rattle.endpoints.specs.Endpoints.{blank}
 use Rattle.store_rules.specs.Stores.{Log, modify_csr0l, modify_intre}
 use Rattle.store_rules.specs.Promise.{does, faddr, power, index, csr0l, csr0h, txcsrl, rxcsrl, iso, maxp, intrusbe, intre}
 use Rattle.store_rules.proofs.Promises.{modify_csr0l_lem, modify_txcsrl_lem, modify_rxcsrl_lem, modify_intre_lem}
 use Rattle.common_rules.specs.Common.{bus_init, selected, stall_csr0l, write_csrl, ep_tx_stall, ep_rx_stall, is_stalled}
 use Rattle.common_rules.specs.Enable.{flushed_zero, enabled_zero, sized, settled, iso_written, waits, flush, flushed, enabled_other, enabled, ep_tx_enable, ep_rx_enable}
 use Rattle.record.specs.declared.Record.{Record}
-use Rattle.record.specs.declared.Admission.{Admission}
-use Rattle.record.specs.declared.Admission.TheVariants.{Clear, Refused}
-use Rattle.record.specs.Record.{record_sound, endpoints_in, endpoints_of, admission_by}
+use Rattle.record.specs.Record.{record_sound, endpoints_in, endpoints_of, admission_by, Reply}
 use Rattle.record.proofs.Rows.{none_refused, unlike}
 use Rattle.call_rules.specs.Calls.{CallOutcome, stored, unless, short, begun, beyond, bus_init_call, enable_call, idled, address_entry, address_call}
 use Rattle.call_rules.specs.Reset.{tx_enabled, rx_enabled, used_enabled, enabled_below, reset_stores, reset_call}
@@ -41,13 +40,13 @@ use Rattle.calls.proofs.Steps.{Step, one, Reached, none, then, within, Sane, Car
 use Rattle.calls.proofs.Accounts.{Account, Passes, left, stores, at_most, tx_modify, rx_modify, zero_modify, below}
 
 -- the tests of a call, and of one at an endpoint
-abbrev lent : Record → List ℕ → Admission
+abbrev lent : Record → List ℕ → Reply Unit
 lent k l = admission_by (short l) (record_sound k) false
 
-abbrev lent_at : Record → ℕ → List ℕ → Admission
+abbrev lent_at : Record → ℕ → List ℕ → Reply Unit
 lent_at k e l = admission_by (short l) (record_sound k) (beyond k e)
 
-passes : (k : Record) (l : List ℕ) (x : Bool) → admission_by (short l) (record_sound k) x ≡ Clear → Passes k l
+passes : (k : Record) (l : List ℕ) (x : Bool) → admission_by (short l) (record_sound k) x ≡ (Ok tt) → Passes k l
 passes k l x c = let t = none_refused (short l) (record_sound k) x c in (t.1, ltb-false _ _ t.0)
 
 -- the account of all that a call leaves
@@ -59,28 +58,28 @@ Told May k l o = Account May false k l o.call.«record» o.list o.call.stores
 
 -- a call that is refused stores nothing
 module _ {May : Step → Log → Type 0} (k : Record) (l : List ℕ) where
-  unless_refused : (c : ControlState) (g : Log) {m : ℕ} (t : Admission) → (t ≡ Clear → Passes k l) → m ≤ 128 → (t ≡ Clear → Reached May (begun k l) false m g)
+  unless_refused : (c : ControlState) (g : Log) {m : ℕ} (t : Reply Unit) → (t ≡ (Ok tt) → Passes k l) → m ≤ 128 → (t ≡ (Ok tt) → Reached May (begun k l) false m g)
       → Called May k l (unless t k l (stored k c g))
-  unless_refused c g (Refused x) s i f = left refl refl
-  unless_refused c g Clear s i f = stores l g (s refl) (within (f refl) 128 i) refl refl refl
+  unless_refused c g (Err x) s i f = left refl refl
+  unless_refused c g (Ok tt) s i f = stores l g (s refl) (within (f refl) 128 i) refl refl refl
 
-  told_unless : (b : Bool) (g : Log) {m : ℕ} (t : Admission) → (t ≡ Clear → Passes k l) → m ≤ 128 → (t ≡ Clear → Reached May (begun k l) false m g)
+  told_unless : (b : Bool) (g : Log) {m : ℕ} (t : Reply Unit) → (t ≡ (Ok tt) → Passes k l) → m ≤ 128 → (t ≡ (Ok tt) → Reached May (begun k l) false m g)
       → Told May k l (unless_stalled t k l (stalled_of k b g))
-  told_unless b g (Refused x) s i f = left refl refl
-  told_unless b g Clear s i f = stores l g (s refl) (within (f refl) 128 i) refl refl refl
+  told_unless b g (Err x) s i f = left refl refl
+  told_unless b g (Ok tt) s i f = stores l g (s refl) (within (f refl) 128 i) refl refl refl
 
 -- the calls that leave SendStall and what waits alone
 module _ (k : Record) where
   abbrev b : Board
   b = k.regs.board
 
-  pub alloc_ep_lem : (q : Ask) (w : Wanted) → Account (Careful b) false k [] (alloc_ep_call k q w).«record» [] 0
+  pub alloc_ep_lem : (q : Ask) (w : Option ℕ) → Account (Careful b) false k [] (alloc_ep_call k q w).«record» [] 0
   unfolding alloc_ep_call alloc_ep
   alloc_ep_lem q w = go (admission_by false (record_sound k) false)
     where
-      go : (t : Admission) → Account (Careful b) false k [] (unless_allocated t k (alloc_ep k q w)).«record» [] 0
-      go (Refused x) = left refl refl
-      go Clear = left refl refl
+      go : (t : Reply Unit) → Account (Careful b) false k [] (unless_allocated t k (alloc_ep k q w)).«record» [] 0
+      go (Err x) = left refl refl
+      go (Ok tt) = left refl refl
 
   pub bus_init_lem : (l : List ℕ) → Called (Careful b) k l (bus_init_call k l)
   unfolding bus_init_call bus_init
@@ -99,10 +98,10 @@ module _ (k : Record) where
       (λ c. passes k l false (passed (lent k l) (leb a 127) c).0) (lit≤ tt)
       (λ c. then none (one (faddr a)) ((leb-true a 127 (passed (lent k l) (leb a 127) c).1, tt), inl tt))
     where
-      passed : (t : Admission) (fits : Bool) → address_entry t fits ≡ Clear → (t ≡ Clear) × (fits ≡ true)
-      passed (Refused x) fits c = (c, unlike c)
-      passed Clear true c = (refl, refl)
-      passed Clear false c = unlike c
+      passed : (t : Reply Unit) (fits : Bool) → address_entry t fits ≡ (Ok tt) → (t ≡ (Ok tt)) × (fits ≡ true)
+      passed (Err x) fits c = (c, unlike c)
+      passed (Ok tt) true c = (refl, refl)
+      passed (Ok tt) false c = unlike c
 
   pub is_stalled_lem : (e : ℕ) (d : Direction) (l : List ℕ) → Told (Careful b) k l (is_stalled_call k e d l)
   unfolding is_stalled_call

@@ -1,4 +1,7 @@
 -- What every operation but poll makes of the control state: specs/Control.antt says. Assumes nothing.
+use Rattle.std.specs.Prelude.{Err, Ok, Result}
+use Rattle.record.specs.declared.Answered.{Answered}
+use Rattle.call_rules.specs.declared.AllocRefusal.{AllocRefusal}
 use Prim.Native.Nat.{ℕ, ◌≤◌, ◌<◌}
 use mathlib.Core.Path.{◌≡◌, refl, sym, ap, subst, ◌∙◌}
 use mathlib.Core.Bool.{Bool, true, false, ◌&&◌, cond}
@@ -17,9 +20,7 @@ use Rattle.control_state.specs.declared.ControlState.{ControlState}
 use Rattle.control_state.specs.declared.ControlStateEnum.{ControlStateEnum}
 use Rattle.control_state.specs.declared.ControlStateEnum.TheVariants.{Idle, Setup, DataIn, DataOut, Accepted, NodataPhase}
 use Rattle.record.specs.declared.Record.{Record}
-use Rattle.record.specs.declared.Admission.{Admission}
-use Rattle.record.specs.declared.Admission.TheVariants.{Clear, Refused}
-use Rattle.record.specs.Record.{record_sound, admission_by, area_of, reply_number}
+use Rattle.record.specs.Record.{record_sound, admission_by, area_of, reply_number, Reply}
 use Rattle.event_rules.specs.Events as wire
 use Rattle.common_rules.specs.Common.{is_stalled as halted, bus_init as busInitStores}
 use Rattle.laws.specs.Lists.{pasted}
@@ -29,7 +30,6 @@ use Rattle.call_rules.specs.Stall as impl-stall
 use Rattle.call_rules.specs.Alloc as impl-alloc
 use Rattle.call_rules.specs.Reset.{reset_stores, reset_call}
 use Rattle.call_rules.specs.Interrupt.{interrupted, interrupt_by, interrupt_call}
-use Rattle.call_rules.specs.declared.AllocCalled.{AllocCalled}
 use Rattle.host_rules.specs.Host as host
 use Rattle.transfer_rules.specs.Peek.{leaving, ended}
 use Rattle.transfer_rules.specs.WriteZero.{write_number, nodata_phase, accepted, tx_size, sent_data_in, sent_zero}
@@ -179,24 +179,24 @@ module _ (k : Record) (b f l : List ℕ) where
 
 -- the simple calls leave the control state that they are said to leave
 module _ (k : Record) (l : List ℕ) (c : ControlState) (g : Log) where
-  called_control : (t : Admission) → reply_number (impl.unless t k l (impl.stored k c g)).call.answer ≡ 0
+  called_control : (t : Reply Unit) → reply_number (impl.unless t k l (impl.stored k c g)).call.answer ≡ 0
       → (impl.unless t k l (impl.stored k c g)).call.«record».control_state ≡ c
-  called_control (Refused x) z = absurd (not_zero x z)
-  called_control Clear z = refl
+  called_control (Err x) z = absurd (not_zero x z)
+  called_control (Ok tt) z = refl
 
-  called_same : c ≡ k.control_state → (t : Admission) → SameControl k (impl.unless t k l (impl.stored k c g)).call.«record»
-  called_same p (Refused x) = refl
-  called_same p Clear = p
+  called_same : c ≡ k.control_state → (t : Reply Unit) → SameControl k (impl.unless t k l (impl.stored k c g)).call.«record»
+  called_same p (Err x) = refl
+  called_same p (Ok tt) = p
 
 module _ (k : Record) where
   -- the tests of an event, of a call, and of one at an endpoint
-  abbrev plain : Admission
+  abbrev plain : Reply Unit
   plain = admission_by false (record_sound k) false
 
-  abbrev lent : List ℕ → Admission
+  abbrev lent : List ℕ → Reply Unit
   lent l = admission_by (impl.short l) (record_sound k) false
 
-  abbrev lent_at : ℕ → List ℕ → Admission
+  abbrev lent_at : ℕ → List ℕ → Reply Unit
   lent_at e l = admission_by (impl.short l) (record_sound k) (impl.beyond k e)
 
   abbrev r : File
@@ -229,26 +229,26 @@ module _ (k : Record) where
       go true = p
       go false = p
 
-  told_same : (l : List ℕ) (b : Bool) (g : Log) (t : Admission) → SameControl k (impl-stall.unless_stalled t k l (impl-stall.stalled_of k b g)).call.«record»
-  told_same l b g (Refused x) = refl
-  told_same l b g Clear = refl
+  told_same : (l : List ℕ) (b : Bool) (g : Log) (t : Reply Unit) → SameControl k (impl-stall.unless_stalled t k l (impl-stall.stalled_of k b g)).call.«record»
+  told_same l b g (Err x) = refl
+  told_same l b g (Ok tt) = refl
 
-  alloc_same : (o : AllocCalled) → SameControl k o.«record» → (t : Admission) → SameControl k (impl-alloc.unless_allocated t k o).«record»
-  alloc_same o p (Refused x) = refl
-  alloc_same o p Clear = p
+  alloc_same : (o : Answered (Result ℕ AllocRefusal)) → SameControl k o.«record» → (t : Reply Unit) → SameControl k (impl-alloc.unless_allocated t k o).«record»
+  alloc_same o p (Err x) = refl
+  alloc_same o p (Ok tt) = p
 
-  event_same : (r : File) (t : Admission) → SameControl k (host.unless t k r).«record»
-  event_same r (Refused x) = refl
-  event_same r Clear = refl
+  event_same : (r : File) (t : Reply Unit) → SameControl k (host.unless t k r).«record»
+  event_same r (Err x) = refl
+  event_same r (Ok tt) = refl
 
-  arrival_same : (f x : List ℕ) (r : File) (t : Admission) → SameControl k (host.unless_arrived t k f (record { event = host.done k r; fifo = x })).event.«record»
-  arrival_same f x r (Refused y) = refl
-  arrival_same f x r Clear = refl
+  arrival_same : (f x : List ℕ) (r : File) (t : Reply Unit) → SameControl k (host.unless_arrived t k f (record { event = host.done k r; fifo = x })).event.«record»
+  arrival_same f x r (Err y) = refl
+  arrival_same f x r (Ok tt) = refl
 
-  collection_same : (e : ℕ) (t : Admission) → SameControl k (host.unless_collected t k (host.collected_from k e)).«record»
+  collection_same : (e : ℕ) (t : Reply Unit) → SameControl k (host.unless_collected t k (host.collected_from k e)).«record»
   unfolding host.collected_from
-  collection_same e (Refused x) = refl
-  collection_same e Clear = refl
+  collection_same e (Err x) = refl
+  collection_same e (Ok tt) = refl
 
   interrupt_same : (b : Bool) → SameControl k (interrupt_by b k).«record»
   unfolding interrupted

@@ -1,12 +1,13 @@
 -- Every public call and host event as one kind of operation: its arguments, what it is lent, and all that it leaves.
 -- Assumes nothing.
-use Rattle.std.specs.Prelude.{ℕ, Bool}
+use Rattle.std.specs.Prelude.{ℕ, Bool, Option, Result}
+use Rattle.board.specs.declared.Span.{Span}
+use Rattle.record.specs.declared.Answered.{Answered}
+use Rattle.call_rules.specs.declared.AllocRefusal.{AllocRefusal}
 use mathlib.Core.List.{List, [], foldl}
 use Rattle.board.specs.declared.Direction.{Direction}
-use Rattle.endpoints.specs.declared.Wanted.{Wanted}
-use Rattle.endpoints.specs.Endpoints.{Ask}
+use Rattle.endpoints.specs.declared.Ask.{Ask}
 use Rattle.record.specs.declared.Record.{Record}
-use Rattle.call_rules.specs.declared.AllocCalled.{AllocCalled}
 use Rattle.call_rules.specs.Calls as impl
 use Rattle.call_rules.specs.Alloc as impl-alloc
 use Rattle.call_rules.specs.Reset as impl-reset
@@ -16,15 +17,13 @@ use Rattle.transfer_rules.specs.WriteZero.{write_number, write_values}
 use Rattle.transfer_rules.specs.Read.{ReadOutcome, read_call}
 use Rattle.transfer_rules.specs.ReadZero.{read_number, read_values}
 use Rattle.round_rules.specs.Poll.{PollOutcome, poll_call, poll_number, poll_values}
-use Rattle.record.specs.declared.Answered.{Answered}
-use Rattle.record.specs.Record.{reply_number}
+use Rattle.record.specs.Record.{reply_number, Reply}
 use Rattle.call_rules.specs.Interrupt.{interrupt_call}
-use Rattle.host_rules.specs.declared.CollectCalled.{CollectCalled}
 use Rattle.host_rules.specs.Host as host
 
 -- The buffers and their contents are part of the operation, so each call may be lent another buffer.
 pub data Op : Type 0 where
-  alloc_ep : Ask → Wanted → Op
+  alloc_ep : Ask → Option ℕ → Op
   bus_init : List ℕ → Op  -- the lent list
   enable : List ℕ → Op
   reset : List ℕ → Op
@@ -75,7 +74,7 @@ told t = record {
   buf = [];
 }
 
-abbrev pub allocated : AllocCalled → Outcome
+abbrev pub allocated : Answered (Result ℕ AllocRefusal) → Outcome
 allocated o = record {
   reply = impl-alloc.alloc_number o.answer;
   values = impl-alloc.alloc_values o.answer;
@@ -120,7 +119,7 @@ polled p = record {
   buf = [];
 }
 
-abbrev pub answered : Answered → Outcome
+abbrev pub answered : Answered (Reply Unit) → Outcome
 answered o = record { reply = reply_number o.answer; values = []; «record» = o.«record»; stores = 0; fifo = []; list = []; buf = [] }
 
 abbrev pub arrived : host.Arrival → Outcome
@@ -135,7 +134,7 @@ arrived o = record {
 }
 
 -- the bytes are those that stand in the lent FIFO buffer
-abbrev pub collected : List ℕ → CollectCalled → Outcome
+abbrev pub collected : List ℕ → Answered (Reply Span) → Outcome
 collected f o = record {
   reply = host.collect_number o.answer;
   values = host.collect_values o.answer f;

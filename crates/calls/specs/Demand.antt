@@ -3,10 +3,8 @@
 -- That each call takes any numbers and finishes is its contract, which asks for nothing and whose outcome is the one of `outcome`; the rest
 -- of the demand is here, of any record and any operation.
 -- Assumes nothing.
-use Rattle.std.specs.Prelude.{ℕ, zero, suc, ◌≡◌, Bool, true, false, ◌||◌, List, [], ◌∷◌, eqb, drop}
+use Rattle.std.specs.Prelude.{ℕ, zero, suc, ◌≡◌, Bool, true, false, ◌||◌, List, [], ◌∷◌, eqb, drop, None, Option, Some}
 use Rattle.register_file.specs.Registers.{with_index}
-use Rattle.endpoints.specs.declared.Wanted.{Wanted}
-use Rattle.endpoints.specs.declared.Wanted.TheVariants.{Any, Number}
 use Rattle.record.specs.declared.Record.{Record}
 use Rattle.record.specs.Record.{with_regs}
 use Rattle.calls.specs.Calls.{Op, alloc_ep, bus_init, enable, reset, set_device_address, write, read, set_stalled, is_stalled, poll, on_interrupt, force_reset, arrival, collection, bus_reset, suspend, resume, setup_end, underrun, overrun, Outcome, outcome}
@@ -16,10 +14,10 @@ use Rattle.calls.specs.Calls.{Op, alloc_ep, bus_init, enable, reset, set_device_
 -- 13 in a read".
 -- "wanted number 0 is never checked"; reply 1 is given where no number is wanted.
 -- The list is a bound: exactly when each number is given is said by the laws of the call's own crate.
-abbrev pub alloc_replies : Wanted → List ℕ
-alloc_replies Any = 16 ∷ 1 ∷ 0 ∷ []
-alloc_replies (Number zero) = 16 ∷ 0 ∷ []
-alloc_replies (Number (suc n)) = 16 ∷ 2 ∷ 5 ∷ 3 ∷ 4 ∷ 0 ∷ []
+abbrev pub alloc_replies : Option ℕ → List ℕ
+alloc_replies None = 16 ∷ 1 ∷ 0 ∷ []
+alloc_replies (Some zero) = 16 ∷ 0 ∷ []
+alloc_replies (Some (suc n)) = 16 ∷ 2 ∷ 5 ∷ 3 ∷ 4 ∷ 0 ∷ []
 
 abbrev pub replies : Op → List ℕ
 replies (alloc_ep q w) = alloc_replies w

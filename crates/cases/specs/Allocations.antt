@@ -1,16 +1,15 @@
 -- Document 01's proved table, 'Cases': P1 to P10. A case is what a definition gives beside what the document says, so that the cases of
 -- other calls can stand in the same list.
 -- Assumes nothing.
-use Rattle.std.specs.Prelude.{◌≡◌, List, [], ◌∷◌, ◌++◌, map, ℕ, length, replicate}
+use Rattle.std.specs.Prelude.{◌≡◌, List, [], ◌∷◌, ◌++◌, map, ℕ, length, replicate, None, Option, Some}
 use Rattle.board.specs.declared.Row.{Row}
 use Rattle.board.specs.declared.Direction.{Direction}
 use Rattle.board.specs.declared.Direction.TheVariants.{Out, In}
 use Rattle.endpoints.specs.declared.EndpointType.{EndpointType}
 use Rattle.endpoints.specs.declared.EndpointType.TheVariants.{Control, Isochronous, Bulk, Interrupt}
 use Rattle.endpoints.specs.declared.EndpointData.{EndpointData}
-use Rattle.endpoints.specs.declared.Wanted.{Wanted}
-use Rattle.endpoints.specs.declared.Wanted.TheVariants.{Any, Number}
-use Rattle.endpoints.specs.Endpoints.{Ask, ask, fresh}
+use Rattle.endpoints.specs.declared.Ask.{Ask}
+use Rattle.endpoints.specs.Endpoints.{ask, fresh}
 use Rattle.endpoints.specs.Allocate.{allocate}
 use Rattle.endpoints.specs.Numbers.{answer_number, answer_values}
 
@@ -25,14 +24,14 @@ Hold cs = map (λ (c : Case). c.gives) cs ≡ map (λ (c : Case). c.says) cs
 
 -- an allocation as a case writes it
 pub record Alloc : Type 0 where
-  pub wanted : Wanted
+  pub wanted : Option ℕ
   pub asked : Ask
 
 abbrev pub any : EndpointType → Direction → ℕ → Alloc
-any k d n = record { wanted = Any; asked = ask k d n }
+any k d n = record { wanted = None; asked = ask k d n }
 
 abbrev pub wants : ℕ → EndpointType → Direction → ℕ → Alloc
-wants m k d n = record { wanted = Number m; asked = ask k d n }
+wants m k d n = record { wanted = Some m; asked = ask k d n }
 
 -- what allocations in turn give, each on the endpoints that the one before left
 abbrev pub run : List Row → List EndpointData → List Alloc → List (List ℕ)

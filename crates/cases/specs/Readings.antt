@@ -1,6 +1,6 @@
 -- Document 01's proved table, 'Cases': P13; and cases of document 02's T-02.
 -- Assumes nothing.
-use Rattle.std.specs.Prelude.{ℕ, true, false, List, [], ◌∷◌, ◌++◌, set, replicate}
+use Rattle.std.specs.Prelude.{ℕ, true, false, List, [], ◌∷◌, ◌++◌, set, replicate, Err, Ok}
 use Rattle.board.specs.declared.Board.{Board}
 use Rattle.board.specs.declared.Direction.TheVariants.{Out}
 use Rattle.csr.specs.declared.Side.{Side}
@@ -12,9 +12,7 @@ use Rattle.control_state.specs.Numbers.{state_number}
 use Rattle.control_state.specs.declared.ControlStateEnum.{ControlStateEnum}
 use Rattle.control_state.specs.declared.ControlStateEnum.TheVariants.{Idle, Setup, DataOut}
 use Rattle.record.specs.declared.Record.{Record}
-use Rattle.record.specs.Record.{fresh_record, with_regs, with_control, with_endpoints, need_of}
-use Rattle.transfer_rules.specs.declared.ReadAnswer.{ReadAnswer}
-use Rattle.transfer_rules.specs.declared.ReadAnswer.TheVariants.{Done, Refused}
+use Rattle.record.specs.Record.{fresh_record, with_regs, with_control, with_endpoints, need_of, Reply}
 use Rattle.transfer_rules.specs.Read.{ReadOutcome, read_call}
 use Rattle.transfer_rules.specs.ReadZero.{read_number}
 
@@ -35,9 +33,9 @@ abbrev pub receiving : Record → ℕ → ℕ → Record
 receiving k size n = holding (in_state (with_endpoints k (set k.endpoints 0 (marked fresh Control Out size))) DataOut) 0 n
 
 -- what a read gives, without the bytes: its reply, its count, and then the control state's number
-abbrev pub counted : ReadAnswer → List ℕ
-counted (Done n) = n ∷ []
-counted (Refused x) = []
+abbrev pub counted : Reply ℕ → List ℕ
+counted (Ok n) = n ∷ []
+counted (Err x) = []
 
 abbrev pub shown : ReadOutcome → List ℕ
 shown o = read_number o.result.answer ∷ counted o.result.answer ++ (state_number o.result.«record».control_state.state ∷ [])

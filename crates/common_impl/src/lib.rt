@@ -10,6 +10,8 @@ ghost use Rattle.common_rules.specs.Common.{bus_init, selected, stall_csr0l, wri
 
 use board::Direction;
 use common_rules::Stalled;
+use csr::{Csr0l, Rxcsrl, Txcsrl};
+use stores::Control;
 
 pub fn bus_init(w: &mut [u16; 46], list: &mut [u16], n: usize) -> usize
     requires { n * 3 + 9 ≤ length list.old }
@@ -21,6 +23,7 @@ pub fn bus_init(w: &mut [u16; 46], list: &mut [u16], n: usize) -> usize
 }
 
 // A `write` of RXCSRL or TXCSRL, which starts from all zeros: SendStall and ClrDataTog alone.
+// (An arm for each register, here and in `send_stall`: each names its own register's bits, which `Control` does not have in common.)
 pub fn write_csrl(
     w: &mut [u16; 46],
     list: &mut [u16],
@@ -34,20 +37,25 @@ pub fn write_csrl(
 {
     match d {
         Direction::Out => {
-            let mut v = csr_ops::zero_rxcsrl();
-            v.send_stall = stall;
-            v.clr_data_tog = toggle;
-            stores::write_rxcsrl(w, list, n, v)
+            let v = Rxcsrl {
+                send_stall: stall,
+                clr_data_tog: toggle,
+                ..Rxcsrl::default()
+            };
+            stores::write(w, list, n, v)
         }
         Direction::In => {
-            let mut v = csr_ops::zero_txcsrl();
-            v.send_stall = stall;
-            v.clr_data_tog = toggle;
-            stores::write_txcsrl(w, list, n, v)
+            let v = Txcsrl {
+                send_stall: stall,
+                clr_data_tog: toggle,
+                ..Txcsrl::default()
+            };
+            stores::write(w, list, n, v)
         }
     }
 }
 
+// The source's names, `ep_tx_stall` and `ep_rx_stall`, over one function; so `ep_tx_is_stalled` and `ep_rx_is_stalled` below.
 pub fn ep_tx_stall(w: &mut [u16; 46], list: &mut [u16], n: usize, index: u8, stalled: bool) -> usize
     requires { n * 3 + 6 ≤ length list.old }
     ensures { (log w.new list.new result ≡ ep_tx_stall index stalled (log w.old list.old n)) × (result ≡ n + 2) }
@@ -79,10 +87,12 @@ fn stall_csr0l(w: &mut [u16; 46], list: &mut [u16], n: usize, stall: bool, servi
     requires { n * 3 + 3 ≤ length list.old }
     ensures { (log w.new list.new result ≡ stall_csr0l stall serviced (log w.old list.old n)) × (result ≡ n + 1) }
 {
-    let mut v = csr_ops::zero_csr0l();
-    v.send_stall = stall;
-    v.serviced_rx_pkt_rdy = serviced;
-    stores::write_csr0l(w, list, n, v)
+    let v = Csr0l {
+        send_stall: stall,
+        serviced_rx_pkt_rdy: serviced,
+        ..Csr0l::default()
+    };
+    stores::write(w, list, n, v)
 }
 
 pub fn ep_rx_stall(w: &mut [u16; 46], list: &mut [u16], n: usize, index: u8, stalled: bool) -> usize
@@ -105,7 +115,7 @@ fn is_stalled(w: &mut [u16; 46], list: &mut [u16], n: usize, d: Direction, index
 {
     let a = stores::write_index(w, list, n, index);
     if index == 0 {
-        let v = regs::read_csr0l(w);
+        let v = Csr0l::read(w);
         return Stalled {
             n: a,
             stalled: v.send_stall,
@@ -122,11 +132,11 @@ fn send_stall(w: &[u16; 46], d: Direction) -> bool
 {
     match d {
         Direction::Out => {
-            let v = regs::read_rxcsrl(w);
+            let v = Rxcsrl::read(w);
             v.send_stall
         }
         Direction::In => {
-            let v = regs::read_txcsrl(w);
+            let v = Txcsrl::read(w);
             v.send_stall
         }
     }

@@ -7,8 +7,9 @@ ghost use Rattle.std.specs.Prelude.{◌≡◌};
 ghost use Rattle.control_state.specs.Control.{idle, with_state, with_tx_len, decreased};
 ghost use Rattle.control_state.specs.Numbers.{state_number};
 
-#[derive(Clone, Copy)]
+#[derive(Clone, Copy, Default)]
 pub enum ControlStateEnum {
+    #[default]
     Idle,
     Setup,
     DataIn,
@@ -17,7 +18,7 @@ pub enum ControlStateEnum {
     NodataPhase,
 }
 
-#[derive(Clone, Copy)]
+#[derive(Clone, Copy, Default)]
 pub struct ControlState {
     pub state: ControlStateEnum,
     pub tx_len: u32,
@@ -27,19 +28,13 @@ impl ControlState {
     pub fn new() -> Self
         ensures { result ≡ idle }
     {
-        Self {
-            state: ControlStateEnum::Idle,
-            tx_len: 0,
-        }
+        Self::default()
     }
 
     pub fn set_state(self, state: ControlStateEnum) -> Self
         ensures { result ≡ with_state self state }
     {
-        Self {
-            state,
-            tx_len: self.tx_len,
-        }
+        Self { state, ..self }
     }
 
     pub fn get_state(self) -> ControlStateEnum
@@ -57,19 +52,14 @@ impl ControlState {
     pub fn set_tx_len(self, tx_len: u32) -> Self
         ensures { result ≡ with_tx_len self tx_len }
     {
-        let state = self.state;
-        Self { state, tx_len }
+        Self { tx_len, ..self }
     }
 
     // Document 01: "the remaining length falls, never below 0".
     pub fn decrease_tx_len(self, len: u32) -> Self
         ensures { result ≡ decreased self len }
     {
-        let tx_len = self.tx_len;
-        if len > tx_len {
-            return self.set_tx_len(0);
-        }
-        self.set_tx_len(tx_len - len)
+        self.set_tx_len(self.tx_len.saturating_sub(len))
     }
 
     pub fn get_tx_len(self) -> u32
@@ -80,15 +70,17 @@ impl ControlState {
 }
 
 // The source's `state as u8`.
-pub fn number(state: ControlStateEnum) -> u8
-    ensures { result ≡ state_number state }
-{
-    match state {
-        ControlStateEnum::Idle => 0,
-        ControlStateEnum::Setup => 1,
-        ControlStateEnum::DataIn => 2,
-        ControlStateEnum::DataOut => 3,
-        ControlStateEnum::Accepted => 4,
-        ControlStateEnum::NodataPhase => 5,
+impl From<ControlStateEnum> for u8 {
+    ghost from_gives = { λ s n. n ≡ state_number s };
+
+    fn from(state: ControlStateEnum) -> u8 {
+        match state {
+            ControlStateEnum::Idle => 0,
+            ControlStateEnum::Setup => 1,
+            ControlStateEnum::DataIn => 2,
+            ControlStateEnum::DataOut => 3,
+            ControlStateEnum::Accepted => 4,
+            ControlStateEnum::NodataPhase => 5,
+        }
     }
 }

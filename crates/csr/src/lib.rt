@@ -1,11 +1,11 @@
 // Document 01's control registers: their bits by name (here), what a store does to one side of an endpoint and the number that it lists
-// (specs/), and document 01's sentences about them as laws (proofs/). No function: csr_ops has them.
+// (specs/), and document 01's sentences about them as laws (proofs/). No function but what is derived: csr_ops has them.
 
 #![tactic(auto)]
 
 // One direction of an endpoint. In Rust's words In is TX and Out is RX.
-// Endpoint 0's SendStall and SentStall stand in its transmit side.
-#[derive(Clone, Copy)]
+// Endpoint 0's SendStall and SentStall stand in its transmit side. By default nothing is there.
+#[derive(Clone, Copy, Default)]
 pub struct Side {
     // TxPktRdy or RxPktRdy
     pub ready: bool,
@@ -22,8 +22,8 @@ pub struct Side {
     pub len: u16,
 }
 
-// CSR0L, from bit 0.
-#[derive(Clone, Copy)]
+// CSR0L, from bit 0. By default each bit of a control register is 0: the source's `write` starts from that.
+#[derive(Clone, Copy, Default)]
 pub struct Csr0l {
     pub rx_pkt_rdy: bool,
     pub tx_pkt_rdy: bool,
@@ -36,7 +36,7 @@ pub struct Csr0l {
 }
 
 // TXCSRL, from bit 0.
-#[derive(Clone, Copy)]
+#[derive(Clone, Copy, Default)]
 pub struct Txcsrl {
     pub tx_pkt_rdy: bool,
     pub fifo_not_empty: bool,
@@ -48,7 +48,7 @@ pub struct Txcsrl {
 }
 
 // RXCSRL, from bit 0.
-#[derive(Clone, Copy)]
+#[derive(Clone, Copy, Default)]
 pub struct Rxcsrl {
     pub rx_pkt_rdy: bool,
     pub fifo_full: bool,
@@ -60,7 +60,7 @@ pub struct Rxcsrl {
     pub clr_data_tog: bool,
 }
 
-// What the source's closures set in a `modify` of CSR0L.
+// What the source's closures set in a `modify` of CSR0L. Cases and no closures: the definitions of each `modify` (store_rules Stores) are over them.
 #[derive(Clone, Copy)]
 pub enum Csr0lSet {
     TxPktRdy,

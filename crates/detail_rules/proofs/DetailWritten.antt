@@ -1,15 +1,14 @@
 -- The detail lines, piece by piece. Assumes nothing.
-use Prim.Native.Nat.{ℕ, zero, suc, ◌+◌, ◌*◌, ◌/◌, ◌%◌, ◌≤◌, ◌<◌}
+use Prim.Native.Nat.{ℕ, zero, suc, ◌+◌, ◌*◌, ◌≤◌, ◌<◌}
 use native.Mathlib.Omega.{arith}
-use native.Mathlib.Decide.{dec_lt}
 use native.Mathlib.Numerals.{add-one}
 use mathlib.Core.Path.{◌≡◌, refl, sym, ap, ◌∙◌}
 use mathlib.Core.Bool.{cond}
 use mathlib.Core.List.{List, [], ◌∷◌, ◌++◌, append_assoc}
-use lib.ListN.{length, get_or, length-append}
+use lib.ListN.{get_or}
 use Rattle.trace_rules.specs.Text.{Wrote, decimal, field, fields}
-use Rattle.trace_rules.proofs.Decimal.{more_digits, length_3}
-use Rattle.trace_rules.proofs.Appended.{then, said, fields_append}
+use Rattle.trace_rules.proofs.Decimal.{length_5}
+use Rattle.trace_rules.proofs.Appended.{then, said, fields_append, word_field}
 use Rattle.board.specs.declared.Direction.TheVariants.{Out, In}
 use Rattle.csr.specs.declared.Side.{Side}
 use Rattle.csr.specs.Control.{txcsrl_of, rxcsrl_of, txcsrl_number, rxcsrl_number}
@@ -19,22 +18,6 @@ use Rattle.endpoints.specs.Endpoints.{blank}
 use Rattle.detail_rules.specs.DetailLines.{store, stores}
 use Rattle.detail_rules.specs.DetailNumbers.{txcsrl_at, rxcsrl_at, registers_at, shown_at, lengths_at, of_data, of_endpoint, of_endpoints}
 
--- a digit more, ten times as far
-longer : (j n : ℕ) → ((m : ℕ) → m ≤ n / 10 → length (decimal m) ≤ j) → 3 ≤ j → length (decimal n) ≤ suc j
-longer j n h l = go (dec_lt n 1000)
-  where
-    go : Dec (n < 1000) → length (decimal n) ≤ suc j
-    go (yes b) = omega (arith, length_3 n b)
-    go (no b) = rw (more_digits n (omega arith)) (omega (arith, length-append (decimal (n / 10)) ((48 + n % 10) ∷ []), h (n / 10) (omega arith)))
-
--- a 16-bit number has at most five digits
-pub length_5 : (n : ℕ) → n < 65536 → length (decimal n) ≤ 5
-length_5 n h = longer 4 n (λ (m : ℕ) (l : m ≤ n / 10). longer 3 m (λ (i : ℕ) (k : i ≤ m / 10). length_3 i (omega arith)) (omega arith)) (omega arith)
-
-field_6 : (n : ℕ) → n < 65536 → length (field n) ≤ 6
-unfolding field
-field_6 n h = omega (arith, length_5 n h)
-
 -- a store's three numbers
 pub store_ends : {a b c d e f : List ℕ} {at i j m n r : ℕ} (x y z : ℕ) {u v w : ℕ} → (u ≡ x) × (u < 65536) → (v ≡ y) × (v < 65536) → (w ≡ z) × (w < 65536)
     → Wrote a b at i (field u) → Wrote b c i j (44 ∷ []) → Wrote c d j m (decimal v) → Wrote d e m n (44 ∷ []) → Wrote e f n r (decimal w)
@@ -42,7 +25,7 @@ pub store_ends : {a b c d e f : List ℕ} {at i j m n r : ℕ} (x y z : ℕ) {u 
 unfolding store
 store_ends x y z {u} {v} {w} eu ev ew p q s t k = (
   then (then (then (then (said (ap field eu.0) p) q) (said (ap decimal ev.0) s)) t) (said (ap decimal ew.0) k),
-  omega (arith, p.count, q.count, s.count, t.count, k.count, field_6 u eu.1, length_5 v ev.1, length_5 w ew.1),
+  omega (arith, p.count, q.count, s.count, t.count, k.count, word_field u eu.1, length_5 v (omega arith), length_5 w (omega arith)),
 )
 
 -- the loop of `put_stores`: none yet, one store more
@@ -54,9 +37,6 @@ pub stores_more : {a b c : List ℕ} {at m r : ℕ} (l : List ℕ) (i : ℕ) →
     → Wrote b c m r (store (get_or l (3 * i) 0) (get_or l (3 * i + 1) 0) (get_or l (3 * i + 2) 0)) → Wrote a c at r (stores l (i + 1))
 unfolding stores
 stores_more l i v w = said (ap (stores l) (sym (add-one i))) (then v w)
-
-pub stores_all : {a b : List ℕ} {at m n : ℕ} (l : List ℕ) (i : ℕ) → i ≡ n → Wrote a b at m (stores l i) → Wrote a b at m (stores l n)
-stores_all l i e w = said (ap (stores l) e) w
 
 -- lists of fields, one after another
 pub on : {a b c : List ℕ} {at m r : ℕ} (xs ys : List ℕ) → Wrote a b at m (fields xs) → Wrote b c m r (fields ys) → Wrote a c at r (fields (xs ++ ys))
@@ -78,10 +58,6 @@ pub endpoints_more : {a b c : List ℕ} {at m n : ℕ} (r : File) (ds : List End
     → Wrote b c m n (fields (of_endpoint r (get_or ds i blank) i)) → Wrote a c at n (fields (of_endpoints r ds (i + 1)))
 unfolding of_endpoints
 endpoints_more r ds i v w = said (ap (λ (k : ℕ). fields (of_endpoints r ds k)) (sym (add-one i))) (on _ _ v w)
-
-pub endpoints_all : {a b : List ℕ} {at m n : ℕ} (r : File) (ds : List EndpointData) (i : ℕ) → i ≡ n
-    → Wrote a b at m (fields (of_endpoints r ds i)) → Wrote a b at m (fields (of_endpoints r ds n))
-endpoints_all r ds i e w = said (ap (λ (k : ℕ). fields (of_endpoints r ds k)) e) w
 
 -- `shown_at`: endpoint 0, and the others
 pub shown_zero : (r : File) (e : ℕ) → e ≡ 0 → 0 ∷ 0 ∷ 0 ∷ 0 ∷ 0 ∷ 0 ∷ [] ≡ shown_at r e

@@ -1,5 +1,6 @@
 -- A control read of endpoint 0 on the display, as `history` proofs/Sample.antt has the rounds: its operations with the board's table written out, each with all that it
 -- answers and leaves, so that T-12's words compute. What is computed is the driver's own. Assumes nothing.
+use Rattle.std.specs.Prelude.{Ok, Some}
 use mathlib.Core.Path.{◌≡◌, refl, sym, ap, subst, ◌∙◌}
 use native.Mathlib.Omega.{arith}
 use native.Mathlib.Decide.{ℕ_discrete}
@@ -23,19 +24,16 @@ use Rattle.store_rules.specs.Stores.{log, write_index}
 use Rattle.event_rules.specs.Events as events
 use Rattle.control_state.specs.declared.ControlStateEnum.{ControlStateEnum}
 use Rattle.endpoints.specs.declared.EndpointType.TheVariants.{Control}
-use Rattle.endpoints.specs.declared.Wanted.TheVariants.{Number}
 use Rattle.endpoints.specs.Endpoints as endpoints
 use Rattle.endpoints.specs.Allocate.{allocate}
 use Rattle.record.specs.declared.Record.{Record}
-use Rattle.record.specs.declared.Admission.{Admission}
-use Rattle.record.specs.Record.{record_sound, admission_by, area_in, area_of, need_in, need_of, endpoints_in, endpoints_of}
+use Rattle.record.specs.Record.{record_sound, admission_by, area_in, area_of, need_in, need_of, endpoints_in, endpoints_of, Reply}
 use Rattle.call_rules.specs.Alloc.{handed, alloc_ep, unless_allocated, alloc_ep_call}
 use Rattle.call_rules.specs.Calls.{stored, unless, begun}
 use Rattle.call_rules.specs.Stall.{ep_stall, after_stall, set_stalled_call}
 use Rattle.call_rules.specs.Interrupt.{interrupt_by, interrupt_call}
 use Rattle.transfer_rules.specs.declared.Verdict.{Verdict}
 use Rattle.transfer_rules.specs.declared.Verdict.TheVariants as verdict
-use Rattle.transfer_rules.specs.declared.ReadAnswer.TheVariants as readAnswer
 use Rattle.transfer_rules.specs.Peek.{short_in, has_tx_pkt_rdy, rx_count, tests_by}
 use Rattle.transfer_rules.specs.WriteZero.{tx_size}
 use Rattle.transfer_rules.specs.ReadZero.{rx_size}
@@ -80,7 +78,7 @@ pub data Act : Type 0 where
   shake : Act  -- a reset of the bus
 
 abbrev pub op : Act → Op
-op (alloc n) = calls.alloc_ep (endpoints.ask Control In n) (Number 0)
+op (alloc n) = calls.alloc_ep (endpoints.ask Control In n) (Some 0)
 op (ask n) = calls.arrival 0 (request n) fifo
 op (fetch n) = calls.read 0 buffer (holding n) list
 op (send n m) = calls.write 0 (payload n) fifo (lent m)
@@ -96,7 +94,7 @@ abbrev read_in : Verdict → List Row → Record → List ℕ → ReadLeft
 read_in verdict.Clear t k f =
     let n = rx_count 0 k.regs.words in
     let b = pasted buffer 0 (take n (drop (area_at t 0 Out).start f)) in
-    record { answer = readAnswer.Done n; buf = b; after = read-read.got 0 b n (rx_size k) k.control_state k.irq (write_index 0 (log k.regs.words list 0)) }
+    record { answer = Ok n; buf = b; after = read-read.got 0 b n (rx_size k) k.control_state k.irq (write_index 0 (log k.regs.words list 0)) }
 read_in verdict.Blocked t k f =
     read-read.read_by verdict.Blocked k.regs.board k.control_state k.irq (rx_size k) 0 buffer f (log k.regs.words list 0)
 read_in (verdict.Refused x) t k f =
@@ -105,14 +103,14 @@ read_in (verdict.Refused x) t k f =
 -- What they answer and leave, with the table t and the answer of reply 16's test as arguments. The length of FIFO memory stands as a number, since counting its bytes for each
 -- operation takes most of the time.
 module _ (t : List Row) (ok : Bool) (k : Record) where
-  abbrev entry_in : Admission
+  abbrev entry_in : Reply Unit
   entry_in = admission_by (ltb 1664 (bytes t)) ok (leb (length t) 0)
 
-  abbrev both_in : ℕ → Admission
+  abbrev both_in : ℕ → Reply Unit
   both_in m = admission_by (ltb 1664 (bytes t) || ltb m 384) ok (leb (length t) 0)
 
   abbrev outcome_in : Act → Outcome
-  outcome_in (alloc n) = calls.allocated (unless_allocated (admission_by false ok false) k (handed k (allocate t k.endpoints (endpoints.ask Control In n) (Number 0))))
+  outcome_in (alloc n) = calls.allocated (unless_allocated (admission_by false ok false) k (handed k (allocate t k.endpoints (endpoints.ask Control In n) (Some 0))))
   outcome_in (ask n) =
       calls.arrived
       (host.unless_arrived (host.arrival_by entry_in (ltb (area_at t 0 Out).size 8) (side_at k.regs.words 0 Out).ready) k fifo

@@ -8,9 +8,11 @@ ghost use Rattle.store_rules.specs.Stores.{log};
 ghost use Rattle.common_rules.specs.Enable.{flushed_zero, enabled_zero, iso_written, waits, flush, flushed, sized, settled, enabled_other, enabled, ep_tx_enable, ep_rx_enable};
 
 use board::Direction;
-use csr::{Csr0lSet, RxcsrlSet, TxcsrlSet};
+use csr::{Csr0l, Csr0lSet, Rxcsrl, RxcsrlSet, Txcsrl, TxcsrlSet};
 use endpoints::{EndpointConfig, EndpointType};
+use stores::Control;
 
+// The source's names, `ep_tx_enable` and `ep_rx_enable`, over one function.
 pub fn ep_tx_enable(
     w: &mut [u16; 46],
     list: &mut [u16],
@@ -21,14 +23,13 @@ pub fn ep_tx_enable(
     requires { (index < 16) × (n * 3 + 21 ≤ length list.old) }
     ensures { (log w.new list.new result ≡ ep_tx_enable index config (log w.old list.old n)) × (result ≤ n + 7) }
 {
-    let t = config.ep_type;
     enable(
         w,
         list,
         n,
         Direction::In,
         index,
-        endpoint_ops::same_type(t, EndpointType::Isochronous),
+        config.ep_type == EndpointType::Isochronous,
         config.tx_max_packet_size,
     )
 }
@@ -58,7 +59,7 @@ fn enable_zero(w: &mut [u16; 46], list: &mut [u16], n: usize) -> usize
     ensures { (log w.new list.new result ≡ enabled_zero (log w.old list.old n)) × (result ≡ n + 3) }
 {
     let a = stores::modify_intre(w, list, n, Direction::In, 0);
-    let b = stores::modify_csr0l(w, list, a, Csr0lSet::ServicedBoth);
+    let b = stores::modify::<Csr0l>(w, list, a, Csr0lSet::ServicedBoth);
     flush_zero(w, list, b)
 }
 
@@ -109,6 +110,7 @@ fn write_size(w: &mut [u16; 46], list: &mut [u16], n: usize, d: Direction, size:
     stores::write_maxp(w, list, n, d, size)
 }
 
+// (A function of its own, as is `flush_if_waiting`: each is a step of the definition, whose contract stands with it.)
 fn write_iso_if(w: &mut [u16; 46], list: &mut [u16], n: usize, d: Direction, iso: bool) -> usize
     requires { n * 3 + 3 ≤ length list.old }
     ensures { (log w.new list.new result ≡ iso_written d iso (log w.old list.old n)) × (result ≤ n + 1) }
@@ -130,16 +132,17 @@ fn flush_if_waiting(w: &mut [u16; 46], list: &mut [u16], n: usize, d: Direction)
     n
 }
 
+// (An arm for each register, here and in `flush_fifo`: each names its own register's bits, which `Control` does not have in common.)
 fn packet_waits(w: &[u16; 46], d: Direction) -> bool
     ensures { result ≡ waits d w.now }
 {
     match d {
         Direction::Out => {
-            let v = regs::read_rxcsrl(w);
+            let v = Rxcsrl::read(w);
             v.rx_pkt_rdy
         }
         Direction::In => {
-            let v = regs::read_txcsrl(w);
+            let v = Txcsrl::read(w);
             v.fifo_not_empty
         }
     }
@@ -150,8 +153,8 @@ fn flush_fifo(w: &mut [u16; 46], list: &mut [u16], n: usize, d: Direction) -> us
     ensures { (log w.new list.new result ≡ flush d (log w.old list.old n)) × (result ≡ n + 1) }
 {
     match d {
-        Direction::Out => stores::modify_rxcsrl(w, list, n, RxcsrlSet::FlushFifo),
-        Direction::In => stores::modify_txcsrl(w, list, n, TxcsrlSet::FlushFifo),
+        Direction::Out => stores::modify::<Rxcsrl>(w, list, n, RxcsrlSet::FlushFifo),
+        Direction::In => stores::modify::<Txcsrl>(w, list, n, TxcsrlSet::FlushFifo),
     }
 }
 
@@ -165,14 +168,13 @@ pub fn ep_rx_enable(
     requires { (index < 16) × (n * 3 + 21 ≤ length list.old) }
     ensures { (log w.new list.new result ≡ ep_rx_enable index config (log w.old list.old n)) × (result ≤ n + 7) }
 {
-    let t = config.ep_type;
     enable(
         w,
         list,
         n,
         Direction::Out,
         index,
-        endpoint_ops::same_type(t, EndpointType::Isochronous),
+        config.ep_type == EndpointType::Isochronous,
         config.rx_max_packet_size,
     )
 }

@@ -1,5 +1,6 @@
 -- What the check of an endpoint comes to, and that the number of an error tells which error it was.
 -- Assumes nothing.
+use Rattle.std.specs.Prelude.{Err, Ok, Result}
 use mathlib.Core.Path.{◌≡◌, refl, sym, ap, ◌∙◌}
 use mathlib.Core.Bool.{Bool, true, false, not, ◌&&◌}
 use mathlib.Core.List.{List, [], ◌∷◌}
@@ -9,8 +10,6 @@ use lib.ListN.{get_or}
 use Rattle.laws.proofs.Tests.{clash}
 use Rattle.endpoints.specs.declared.EndpointAllocError.{EndpointAllocError}
 use Rattle.endpoints.specs.declared.EndpointAllocError.TheVariants.{EndpointOverflow, InvalidEndpoint, EpDirNotSupported, EpUsed, MaxPacketSizeBiggerThanEpFifoSize}
-use Rattle.endpoints.specs.declared.Answer.{Answer}
-use Rattle.endpoints.specs.declared.Answer.TheVariants.{Done, Refused}
 use Rattle.endpoints.specs.Numbers.{error_number, answer_number}
 
 -- the wanted number is not 0, and what is tested of it holds
@@ -31,7 +30,7 @@ numbered_error EpDirNotSupported = (omega arith, refl)
 numbered_error EpUsed = (omega arith, refl)
 numbered_error MaxPacketSizeBiggerThanEpFifoSize = (omega arith, refl)
 
-pub number_tells : (a : Answer) (x : EndpointAllocError) → answer_number a ≡ error_number x → a ≡ Refused x
-number_tells (Done n) x e = absurd (omega (arith, (numbered_error x).0))
-number_tells (Refused y) x e =
-    ap Refused (sym (numbered_error y).1 ∙ ap (λ (n : ℕ). get_or errors n EndpointOverflow) e ∙ (numbered_error x).1)
+pub number_tells : (a : Result ℕ EndpointAllocError) (x : EndpointAllocError) → answer_number a ≡ error_number x → a ≡ Err x
+number_tells (Ok n) x e = absurd (omega (arith, (numbered_error x).0))
+number_tells (Err y) x e =
+    ap Err (sym (numbered_error y).1 ∙ ap (λ (n : ℕ). get_or errors n EndpointOverflow) e ∙ (numbered_error x).1)

@@ -12,7 +12,8 @@ use Rattle.board.specs.declared.Direction.TheVariants.{Out, In}
 use Rattle.endpoints.specs.declared.EndpointType.{EndpointType}
 use Rattle.endpoints.specs.declared.EndpointType.TheVariants.{Control, Isochronous, Bulk, Interrupt}
 use Rattle.endpoints.specs.declared.EndpointData.{EndpointData}
-use Rattle.endpoints.specs.Endpoints.{Ask, same_type, kind_of, used, used_in}
+use Rattle.endpoints.specs.declared.Ask.{Ask}
+use Rattle.endpoints.specs.Endpoints.{same_type, kind_of, used, used_in}
 use Rattle.endpoints.specs.Check.{in_use, over_size}
 use Rattle.endpoints.specs.InUse.{Marked, InUse, bulk, another, same}
 

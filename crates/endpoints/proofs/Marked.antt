@@ -4,7 +4,8 @@ use mathlib.Core.Path.{◌≡◌}
 use Rattle.board.specs.declared.Direction.{Direction}
 use Rattle.board.specs.declared.Direction.TheVariants.{Out, In}
 use Rattle.endpoints.specs.declared.EndpointData.{EndpointData}
-use Rattle.endpoints.specs.Endpoints.{Ask, granted, Granted}
+use Rattle.endpoints.specs.declared.Ask.{Ask}
+use Rattle.endpoints.specs.Endpoints.{granted, Granted}
 
 pub by_way : (e : EndpointData) (q : Ask) (d : Direction) → q.way ≡ d → Granted e (granted e q) q
 unfolding granted

@@ -6,13 +6,9 @@ use Rattle.board.specs.declared.Direction.TheVariants.{Out, In}
 use Rattle.endpoints.specs.declared.EndpointType.{EndpointType}
 use Rattle.endpoints.specs.declared.EndpointType.TheVariants.{Control, Isochronous, Bulk, Interrupt}
 use Rattle.endpoints.specs.declared.EndpointData.{EndpointData}
+use Rattle.endpoints.specs.declared.Ask.{Ask}
 
 -- what a call asks of an endpoint
-pub record Ask : Type 0 where
-  pub kind : EndpointType
-  pub way : Direction
-  pub size : ℕ
-
 abbrev pub ask : EndpointType → Direction → ℕ → Ask
 ask k d n = record { kind = k; way = d; size = n }
 

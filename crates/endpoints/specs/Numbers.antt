@@ -1,10 +1,8 @@
 -- Document 01's number and values for each answer, and what `alloc_ep` tells the trait.
 -- Assumes nothing.
-use Rattle.std.specs.Prelude.{ℕ, List, [], ◌∷◌}
+use Rattle.std.specs.Prelude.{ℕ, List, [], ◌∷◌, Err, Ok, Result}
 use Rattle.endpoints.specs.declared.EndpointAllocError.{EndpointAllocError}
 use Rattle.endpoints.specs.declared.EndpointAllocError.TheVariants.{EndpointOverflow, InvalidEndpoint, EpDirNotSupported, EpUsed, MaxPacketSizeBiggerThanEpFifoSize}
-use Rattle.endpoints.specs.declared.Answer.{Answer}
-use Rattle.endpoints.specs.declared.Answer.TheVariants.{Done, Refused}
 use Rattle.endpoints.specs.declared.UsbError.{UsbError}
 use Rattle.endpoints.specs.declared.UsbError.TheVariants.{EndpointOverflow as UsbOverflow, EndpointMemoryOverflow as UsbMemoryOverflow, InvalidEndpoint as UsbInvalid}
 
@@ -17,13 +15,13 @@ error_number EpUsed = 4
 error_number MaxPacketSizeBiggerThanEpFifoSize = 5
 
 -- "0: done, with its value"
-abbrev pub answer_number : Answer → ℕ
-answer_number (Done n) = 0
-answer_number (Refused x) = error_number x
+abbrev pub answer_number : Result ℕ EndpointAllocError → ℕ
+answer_number (Ok n) = 0
+answer_number (Err x) = error_number x
 
-abbrev pub answer_values : Answer → List ℕ
-answer_values (Done n) = n ∷ []
-answer_values (Refused x) = []
+abbrev pub answer_values : Result ℕ EndpointAllocError → List ℕ
+answer_values (Ok n) = n ∷ []
+answer_values (Err x) = []
 
 -- the source's `alloc_ep`, its `map_err`
 abbrev pub usb_error : EndpointAllocError → UsbError

@@ -1,31 +1,62 @@
 // One endpoint's record, the check of a wanted endpoint and its allocation, as the source's alloc_endpoint.rs has them: types (here),
-// definitions (specs/), document 01's rows as laws (proofs/). No function: endpoint_ops and alloc_endpoint have them.
+// definitions (specs/), document 01's rows as laws (proofs/). No function but conversions and what is
+// derived: endpoint_ops and alloc_endpoint have them.
 
 #![tactic(auto)]
 
-#[derive(Clone, Copy)]
+ghost use Rattle.std.specs.Prelude.{◌≡◌};
+ghost use Rattle.endpoints.specs.Endpoints.{type_number};
+ghost use Rattle.endpoints.specs.Numbers.{error_number, usb_error};
+
+use board::Direction;
+
+#[derive(Clone, Copy, Default, PartialEq, Eq)]
 pub enum EndpointType {
     Control,
     Isochronous,
+    #[default]
     Bulk,
     Interrupt,
 }
 
-#[derive(Clone, Copy)]
+// Document 01's number of a type.
+impl From<EndpointType> for u8 {
+    ghost from_gives = { λ t n. n ≡ type_number t };
+
+    fn from(t: EndpointType) -> u8 {
+        match t {
+            EndpointType::Control => 0,
+            EndpointType::Isochronous => 1,
+            EndpointType::Bulk => 2,
+            EndpointType::Interrupt => 3,
+        }
+    }
+}
+
+#[derive(Clone, Copy, Default)]
 pub struct EndpointConfig {
     pub ep_type: EndpointType,
     pub tx_max_packet_size: u16,
     pub rx_max_packet_size: u16,
 }
 
-#[derive(Clone, Copy)]
+// The default is an endpoint before any call.
+#[derive(Clone, Copy, Default)]
 pub struct EndpointData {
     pub ep_conf: EndpointConfig,
     pub used_tx: bool,
     pub used_rx: bool,
 }
 
+// What a call asks of an endpoint: its type, its direction, its packets' greatest size.
 #[derive(Clone, Copy)]
+pub struct Ask {
+    pub kind: EndpointType,
+    pub way: Direction,
+    pub size: u16,
+}
+
+#[derive(Clone, Copy, Debug, PartialEq, Eq)]
 pub enum EndpointAllocError {
     EndpointOverflow,
     InvalidEndpoint,
@@ -34,37 +65,41 @@ pub enum EndpointAllocError {
     MaxPacketSizeBiggerThanEpFifoSize,
 }
 
-// The source's `Option<u8>`: the number that is wanted.
-#[derive(Clone, Copy)]
-pub enum Wanted {
-    Any,
-    Number(u8),
-}
+// Document 01's number of an error.
+impl From<EndpointAllocError> for u8 {
+    ghost from_gives = { λ e n. n ≡ error_number e };
 
-// The source's `Result<(), EndpointAllocError>`: what the check of one endpoint says.
-#[derive(Clone, Copy)]
-pub enum Checked {
-    Passes,
-    Fails(EndpointAllocError),
-}
-
-// The source's `Result<u8, EndpointAllocError>`: the endpoint that is given, or why none is.
-#[derive(Clone, Copy)]
-pub enum Answer {
-    Done(u8),
-    Refused(EndpointAllocError),
+    fn from(e: EndpointAllocError) -> u8 {
+        match e {
+            EndpointAllocError::EndpointOverflow => 1,
+            EndpointAllocError::InvalidEndpoint => 2,
+            EndpointAllocError::EpDirNotSupported => 3,
+            EndpointAllocError::EpUsed => 4,
+            EndpointAllocError::MaxPacketSizeBiggerThanEpFifoSize => 5,
+        }
+    }
 }
 
 // The cases of the `usb-device` trait's error that allocation gives.
-#[derive(Clone, Copy)]
+#[derive(Clone, Copy, Debug, PartialEq, Eq)]
 pub enum UsbError {
     EndpointOverflow,
     EndpointMemoryOverflow,
     InvalidEndpoint,
 }
 
-#[derive(Clone, Copy)]
-pub struct Allocated {
-    pub endpoints: [EndpointData; 6],
-    pub answer: Answer,
+// What the source's `alloc_ep` makes of an error for the trait.
+impl From<EndpointAllocError> for UsbError {
+    ghost from_gives = { λ e u. u ≡ usb_error e };
+
+    fn from(e: EndpointAllocError) -> UsbError {
+        match e {
+            EndpointAllocError::EndpointOverflow => UsbError::EndpointOverflow,
+            EndpointAllocError::InvalidEndpoint => UsbError::InvalidEndpoint,
+            EndpointAllocError::EpDirNotSupported => UsbError::InvalidEndpoint,
+            EndpointAllocError::EpUsed => UsbError::InvalidEndpoint,
+            EndpointAllocError::MaxPacketSizeBiggerThanEpFifoSize =>
+                UsbError::EndpointMemoryOverflow,
+        }
+    }
 }

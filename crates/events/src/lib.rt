@@ -10,6 +10,7 @@ ghost use Rattle.event_rules.specs.Events.{interrupting, waiting_at, arrived, co
 use board::{Direction, Span};
 use event_rules::BusEvent;
 
+#[tactic(auto, unfolding(register_file::specs::Registers::intr_of))]
 fn intr_of(w: &[u16; 46], d: Direction) -> u16
     ensures { result ≡ intr_of w.now d }
 {
@@ -19,6 +20,7 @@ fn intr_of(w: &[u16; 46], d: Direction) -> u16
     }
 }
 
+#[tactic(auto, unfolding(register_file::specs::Registers::with_intr))]
 fn put_intr(w: &mut [u16; 46], d: Direction, v: u16)
     ensures { w.new ≡ with_intr w.old d v }
 {
@@ -32,6 +34,8 @@ fn put_intr(w: &mut [u16; 46], d: Direction, v: u16)
     }
 }
 
+// (`modify_intre` of stores raises a bit likewise, in the other pair of words: one function would be given both that read and put it.)
+#[tactic(auto, unfolding(event_rules::specs::Events::interrupting))]
 fn interrupt(w: &mut [u16; 46], d: Direction, e: u8)
     requires { e < 16 }
     ensures { w.new ≡ interrupting w.old d e }
@@ -40,6 +44,7 @@ fn interrupt(w: &mut [u16; 46], d: Direction, e: u8)
     put_intr(w, d, v);
 }
 
+#[tactic(auto, unfolding(event_rules::specs::Events::waiting_at))]
 fn wait_at(w: &mut [u16; 46], e: u8, n: u16)
     ensures { w.new ≡ waiting_at w.old e n }
 {
@@ -49,6 +54,7 @@ fn wait_at(w: &mut [u16; 46], e: u8, n: u16)
     regs::put_side(w, e as u16, Direction::Out, s);
 }
 
+#[tactic(auto, unfolding(event_rules::specs::Events::arrived))]
 fn arrival_zero(w: &mut [u16; 46], n: u16)
     ensures { w.new ≡ arrived w.old 0 n }
 {
@@ -59,6 +65,7 @@ fn arrival_zero(w: &mut [u16; 46], n: u16)
     interrupt(w, Direction::In, 0);
 }
 
+#[tactic(auto, unfolding(event_rules::specs::Events::arrived))]
 fn arrival(w: &mut [u16; 46], e: u8, n: u16)
     requires { e < 16 }
     ensures { w.new ≡ arrived w.old e n }
@@ -81,6 +88,7 @@ pub fn arrive(w: &mut [u16; 46], e: u8, bytes: &[u8], area: Span, fifo: &mut [u8
 }
 
 // The host has taken the packet; its place and length are asked before.
+#[tactic(auto, unfolding(event_rules::specs::Events::collected))]
 pub fn collect(w: &mut [u16; 46], e: u8)
     requires { e < 16 }
     ensures { w.new ≡ collected w.old e }
@@ -90,16 +98,14 @@ pub fn collect(w: &mut [u16; 46], e: u8)
     interrupt(w, Direction::In, e);
 }
 
+// The bus events stand in the order of their bits.
 pub fn bus_bit(o: BusEvent) -> u8
     ensures { (result ≡ bus_bit o) × (result < 16) }
 {
-    match o {
-        BusEvent::Suspend => 0,
-        BusEvent::Resume => 1,
-        BusEvent::Reset => 2,
-    }
+    o as u8
 }
 
+#[tactic(auto, unfolding(event_rules::specs::Events::bus_raised, register_file::specs::Registers::intrusb, register_file::specs::Registers::with_intrusb))]
 pub fn bus(w: &mut [u16; 46], o: BusEvent)
     ensures { w.new ≡ bus_raised o w.old }
 {
@@ -107,6 +113,7 @@ pub fn bus(w: &mut [u16; 46], o: BusEvent)
     w[regs::INTRUSB] = v;
 }
 
+#[tactic(auto, unfolding(event_rules::specs::Events::setup_ended, register_file::specs::Registers::with_setupend))]
 pub fn setup_end(w: &mut [u16; 46])
     ensures { w.new ≡ setup_ended w.old }
 {
@@ -115,6 +122,7 @@ pub fn setup_end(w: &mut [u16; 46])
 }
 
 // Underrun of a transmit side, overrun of a receive side.
+#[tactic(auto, unfolding(event_rules::specs::Events::missing))]
 pub fn miss(w: &mut [u16; 46], e: u8, d: Direction)
     ensures { w.new ≡ missing w.old e d }
 {
@@ -124,15 +132,16 @@ pub fn miss(w: &mut [u16; 46], e: u8, d: Direction)
 }
 
 // The bus interrupt register as it was; it is clear after the read.
+#[tactic(auto, unfolding(event_rules::specs::Events::intrusb_cleared, register_file::specs::Registers::intrusb, register_file::specs::Registers::with_intrusb))]
 pub fn read_intrusb(w: &mut [u16; 46]) -> u16
     ensures { (result ≡ intrusb w.old) × (w.new ≡ intrusb_cleared w.old) }
 {
-    let v = w[regs::INTRUSB];
-    w[regs::INTRUSB] = 0;
-    v
+    std::mem::replace(&mut w[regs::INTRUSB], 0)
 }
 
 // An interrupt register of a direction, likewise.
+// (No `mem::take` here: which of the two words it is, `intr_of` and `put_intr` say, and an element lent by a match would say it a third time.)
+#[tactic(auto, unfolding(event_rules::specs::Events::intr_cleared))]
 pub fn read_intr(w: &mut [u16; 46], d: Direction) -> u16
     ensures { (result ≡ intr_of w.old d) × (w.new ≡ intr_cleared w.old d) }
 {

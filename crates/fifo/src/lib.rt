@@ -7,33 +7,23 @@ ghost use Rattle.laws.specs.Lists.{pasted};
 
 use board::Span;
 
-// Copies all of src to the front of dst.
-fn copy_in(dst: &mut [u8], src: &[u8])
-    requires { length src.now ≤ length dst.old }
-    ensures { dst.new ≡ pasted dst.old 0 src.now }
-{
-    let mut j = 0;
-    while j < src.len() {
-        dst[j] = src[j];
-        j += 1;
-    }
-}
-
 // A packet's bytes into its area: only the first bytes of the area change.
 pub fn put_bytes(fifo: &mut [u8], area: Span, bytes: &[u8])
     requires { (length bytes.now ≤ area.size) × (area.start + area.size ≤ length fifo.old) }
     ensures { fifo.new ≡ pasted fifo.old area.start bytes.now }
 {
     let at = area.start;
-    copy_in(&mut fifo[at..], bytes);
+    let end = at + bytes.len();
+    fifo[at..end].copy_from_slice(bytes);
 }
 
 // Copies a packet of n bytes out of its area, to the front of buf.
+// (The whole buffer and n, not its first n bytes: the contract says what stays behind them.)
 pub fn take_bytes(fifo: &[u8], area: Span, n: usize, buf: &mut [u8])
     requires { (n ≤ area.size) × (area.start + area.size ≤ length fifo.now) × (n ≤ length buf.old) }
     ensures { buf.new ≡ pasted buf.old 0 (take n (drop area.start fifo.now)) }
 {
     let start = area.start;
     let end = start + n;
-    copy_in(buf, &fifo[start..end]);
+    buf[..n].copy_from_slice(&fifo[start..end]);
 }

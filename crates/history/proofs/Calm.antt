@@ -1,5 +1,6 @@
 -- The flags after every operation but poll and on_interrupt: as they were, except that an empty write in NodataPhase raises the transmit
 -- flag of endpoint 0. Assumes nothing.
+use Rattle.std.specs.Prelude.{Err, Ok, Option}
 use mathlib.Core.Path.{◌≡◌, refl, sym, ap, subst, ◌∙◌}
 use mathlib.Core.Bool.{Bool, true, false, cond}
 use mathlib.Core.List.{List}
@@ -14,12 +15,9 @@ use Rattle.control_state.specs.declared.ControlState.{ControlState}
 use Rattle.control_state.specs.declared.ControlStateEnum.{ControlStateEnum}
 use Rattle.control_state.specs.declared.ControlStateEnum.TheVariants.{Idle, Setup, DataIn, DataOut, Accepted, NodataPhase}
 use Rattle.control_state.specs.Control.{decreased}
-use Rattle.endpoints.specs.declared.Wanted.{Wanted}
-use Rattle.endpoints.specs.Endpoints.{Ask}
+use Rattle.endpoints.specs.declared.Ask.{Ask}
 use Rattle.record.specs.declared.Record.{Record}
-use Rattle.record.specs.declared.Admission.{Admission}
-use Rattle.record.specs.declared.Admission.TheVariants.{Clear, Refused}
-use Rattle.record.specs.Record.{admission_by, record_sound}
+use Rattle.record.specs.Record.{admission_by, record_sound, Reply}
 use Rattle.transfer_rules.specs.declared.Verdict.{Verdict}
 use Rattle.transfer_rules.specs.declared.Verdict.TheVariants as verdict
 use Rattle.transfer_rules.specs.Peek.{After, blocked, ended}
@@ -39,25 +37,25 @@ use Rattle.history.proofs.Flags.{Alike, same, tx_raised}
 
 module _ (k : Record) where
   -- the simple calls change registers and control state, allocation the endpoints
-  called : (x : Admission) (l : List ℕ) (c : ControlState) (g : Log) → (unless x k l (stored k c g)).call.«record».irq ≡ k.irq
-  called (Refused x) l c g = refl
-  called Clear l c g = refl
+  called : (x : Reply Unit) (l : List ℕ) (c : ControlState) (g : Log) → (unless x k l (stored k c g)).call.«record».irq ≡ k.irq
+  called (Err x) l c g = refl
+  called (Ok tt) l c g = refl
 
-  told : (x : Admission) (l : List ℕ) (b : Bool) (g : Log) → (unless_stalled x k l (stalled_of k b g)).call.«record».irq ≡ k.irq
-  told (Refused x) l b g = refl
-  told Clear l b g = refl
+  told : (x : Reply Unit) (l : List ℕ) (b : Bool) (g : Log) → (unless_stalled x k l (stalled_of k b g)).call.«record».irq ≡ k.irq
+  told (Err x) l b g = refl
+  told (Ok tt) l b g = refl
 
-  allocated : (x : Admission) (q : Ask) (w : Wanted) → (unless_allocated x k (alloc_ep k q w)).«record».irq ≡ k.irq
+  allocated : (x : Reply Unit) (q : Ask) (w : Option ℕ) → (unless_allocated x k (alloc_ep k q w)).«record».irq ≡ k.irq
   unfolding alloc_ep
-  allocated (Refused x) q w = refl
-  allocated Clear q w = refl
+  allocated (Err x) q w = refl
+  allocated (Ok tt) q w = refl
 
-  pub alloc_ep_call_lem : (q : Ask) (w : Wanted) → (alloc_ep_call k q w).«record».irq ≡ k.irq
+  pub alloc_ep_call_lem : (q : Ask) (w : Option ℕ) → (alloc_ep_call k q w).«record».irq ≡ k.irq
   unfolding alloc_ep_call
   alloc_ep_call_lem q w = allocated (admission_by false (record_sound k) false) q w
 
   module _ (l : List ℕ) where
-    abbrev first : Bool → Admission
+    abbrev first : Bool → Reply Unit
     first beyond = admission_by (short l) (record_sound k) beyond
 
     pub bus_init_call_lem : (bus_init_call k l).call.«record».irq ≡ k.irq

@@ -1,4 +1,6 @@
 -- A history of the display for each sentence, computed: this file and LateHistories alone of this crate unfold the register model. Assumes nothing.
+use Rattle.std.specs.Prelude.{Ok}
+use Rattle.round_rules.specs.declared.PollResult.{PollResult}
 use mathlib.Core.Path.{◌≡◌, refl, ap, subst, ◌∙◌}
 use mathlib.Core.Bool.{Bool, true, false}
 use mathlib.Core.List.{List, [], ◌∷◌, ◌++◌}
@@ -14,7 +16,7 @@ use Rattle.store_rules.specs.Stores.{listing, with_own, write_index, write_txcsr
 use Rattle.event_rules.specs.Events.{interrupting, waiting_at, arrived, collected, bus_raised, bus_reset, bus_resume, bus_suspend, intrusb_cleared, intr_cleared}
 use Rattle.common_rules.specs.Overrun.{under_run_cleared, over_run_cleared, repaired, repaired_below}
 use Rattle.laws.specs.Lists.{numbers}
-use Rattle.record.specs.Record.{fresh_record}
+use Rattle.record.specs.Record.{fresh_record, Reply}
 use Rattle.transfer_rules.specs.WriteTests as write
 use Rattle.transfer_rules.specs.Write as write-write
 use Rattle.transfer_rules.specs.ReadTests as read
@@ -24,8 +26,6 @@ use Rattle.round_rules.specs.Zero.{endpoint_zero, accepted_by, accept_step}
 use Rattle.round_rules.specs.Walk.{ready_at, drained, visit, walked}
 use Rattle.round_rules.specs.Round.{told}
 use Rattle.round_rules.specs.declared.PollResult.TheVariants.{None, Reset, Resume, Suspend}
-use Rattle.round_rules.specs.declared.PollAnswer.{PollAnswer}
-use Rattle.round_rules.specs.declared.PollAnswer.TheVariants.{Done}
 use Rattle.round_rules.specs.Poll.{ended, walked_on, accepted_on, round_out, poll_logged}
 use Rattle.host_rules.specs.Host.{collected_from}
 use Rattle.rounds.specs.Machine.{Event, round, names, names_sent, is_round, is_answered_poll, after, false_namings, arrivals_above}
@@ -74,11 +74,11 @@ record Computed : Type 0 where
   sent_5 : names_sent 5 (says (before ++ since)) ≡ true
   sent_not_1 : names_sent 1 (says (before ++ since)) ≡ false
   sent_1 : names_sent 1 (says (put 1 ∷ collect 1 ∷ irq ∷ [])) ≡ true
-  first : replies woken ≡ Done Reset
-  second : replies (woken ++ poll ∷ []) ≡ Done Resume
-  third : replies (woken ++ poll ∷ poll ∷ []) ≡ Done Suspend
-  fourth : replies (woken ++ poll ∷ poll ∷ poll ∷ []) ≡ Done None
-  sleeps : replies asleep ≡ Done Suspend
+  first : replies woken ≡ Ok Reset
+  second : replies (woken ++ poll ∷ []) ≡ Ok Resume
+  third : replies (woken ++ poll ∷ poll ∷ []) ≡ Ok Suspend
+  fourth : replies (woken ++ poll ∷ poll ∷ poll ∷ []) ≡ Ok None
+  sleeps : replies asleep ≡ Ok Suspend
   wakes : names 5 (says (asleep ++ poll ∷ [])) ≡ true
 
 computed : Computed
@@ -143,16 +143,16 @@ pub not_sent_1 : names_sent 1 (given (before ++ since)) ≡ false
 not_sent_1 = told_by (names_sent 1) (before ++ since) false computed.sent_not_1
 
 -- 4. The bound is reached: three polls that are no rounds, and then one that is.
-pub first : answers woken ≡ Done Reset
+pub first : answers woken ≡ Ok Reset
 first = answers_is woken ∙ computed.first
 
-pub second : answers (woken ++ poll ∷ []) ≡ Done Resume
+pub second : answers (woken ++ poll ∷ []) ≡ Ok Resume
 second = answers_is (woken ++ poll ∷ []) ∙ computed.second
 
-pub third : answers (woken ++ poll ∷ poll ∷ []) ≡ Done Suspend
+pub third : answers (woken ++ poll ∷ poll ∷ []) ≡ Ok Suspend
 third = answers_is (woken ++ poll ∷ poll ∷ []) ∙ computed.third
 
-pub fourth : answers (woken ++ poll ∷ poll ∷ poll ∷ []) ≡ Done None
+pub fourth : answers (woken ++ poll ∷ poll ∷ poll ∷ []) ≡ Ok None
 fourth = answers_is (woken ++ poll ∷ poll ∷ poll ∷ []) ∙ computed.fourth
 
 answered : (h : List Do) → T (is_answered_poll (given h))
@@ -167,11 +167,11 @@ polls = more two_polls (op poll) [] (answered (woken ++ poll ∷ poll ∷ [])) t
 -- so the sentence is false of three polls
 pub not_the_third : RoundAfter M 2 → ⊥
 not_the_third claimed =
-    subst (λ (a : PollAnswer). T (is_round (poll_event a))) third
+    subst (λ (a : Reply PollResult). T (is_round (poll_event a))) third
     (claimed (ops woken) _ (op poll) two_polls (answered (woken ++ poll ∷ poll ∷ [])))
 
 -- the lid closed
-pub sleeps : answers asleep ≡ Done Suspend
+pub sleeps : answers asleep ≡ Ok Suspend
 sleeps = answers_is asleep ∙ computed.sleeps
 
 pub slept : Slept Display (ops asleep) list [] (op poll)

@@ -1,4 +1,5 @@
 -- An interrupt of a record that passes reply 16's test is answered, and takes what the interrupt registers held. Assumes nothing.
+use Rattle.record.specs.declared.Answered.{Answered}
 use mathlib.Core.Path.{◌≡◌, sym, ap, subst, ◌∙◌}
 use mathlib.Core.Bool.{Bool, true}
 use Prim.Native.Nat.{ℕ, ◌<◌}
@@ -10,9 +11,8 @@ use Rattle.board.specs.declared.Board.{Board}
 use Rattle.board.specs.Boards.{rows, at_most_six}
 use Rattle.event_rules.proofs.Others.{usb_clears}
 use Rattle.record.specs.declared.Record.{Record}
-use Rattle.record.specs.Record.{endpoints_in, endpoints_of}
+use Rattle.record.specs.Record.{endpoints_in, endpoints_of, Reply}
 use Rattle.record.proofs.Passing.{sound_record_passes}
-use Rattle.record.specs.declared.Answered.{Answered}
 use Rattle.call_rules.specs.Interrupt.{snapshot_of, interrupted, interrupt_by, interrupt_call}
 use Rattle.calls.specs.Calls.{on_interrupt}
 use Rattle.rounds.specs.Machine.{interrupt, is_interrupt}
@@ -27,7 +27,7 @@ module _ (b : Board) (k : Record) (kept : Kept b k) where
   unfolding interrupt_call
   is_answered = ap (λ (passes : Bool). interrupt_by passes k) (sound_record_passes k kept.good.sound)
 
-  abbrev InterruptDoes : Answered → Type 0
+  abbrev InterruptDoes : Answered (Reply Unit) → Type 0
   InterruptDoes o = Does (look b) k (interrupt_event o.answer k) o.«record»
 
   taken_in : InterruptDoes (interrupt_by true k)
@@ -50,8 +50,8 @@ module _ (b : Board) (k : Record) (kept : Kept b k) where
   pub reads_snapshot : event k on_interrupt ≡ interrupt (bit (snapshot_of k.regs.words).tx)
   unfolding snapshot_of
   reads_snapshot =
-      ap (λ (o : Answered). interrupt_event o.answer k) is_answered
+      ap (λ (o : Answered (Reply Unit)). interrupt_event o.answer k) is_answered
       ∙ ap (λ (n : ℕ). interrupt (bit n)) (sym (usb_clears k.regs.words kept.good.six).1)
 
   pub interrupt_answered : T (is_interrupt (interrupt_event (interrupt_call k).answer k))
-  interrupt_answered = subst (λ (o : Answered). T (is_interrupt (interrupt_event o.answer k))) (sym is_answered) tt
+  interrupt_answered = subst (λ (o : Answered (Reply Unit)). T (is_interrupt (interrupt_event o.answer k))) (sym is_answered) tt

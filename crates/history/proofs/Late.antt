@@ -1,4 +1,5 @@
 -- Joined interrupts over a history: every round is the same, on the way and after. Assumes nothing.
+use Rattle.std.specs.Prelude.{Err, Ok}
 use mathlib.Core.Path.{◌≡◌, refl, sym, ap, ap₂, subst, ◌∙◌}
 use mathlib.Core.Logic.{inl, inr}
 use mathlib.Core.Bool.{Bool, false, cond}
@@ -8,9 +9,7 @@ use lib.Dec.{T}
 use Rattle.board.specs.declared.Board.{Board}
 use Rattle.register_file.specs.Registers.{Whole}
 use Rattle.record.specs.declared.Record.{Record}
-use Rattle.record.specs.declared.Reply.{Reply}
-use Rattle.record.specs.declared.Reply.TheVariants as reply
-use Rattle.record.specs.Record.{fresh_record}
+use Rattle.record.specs.Record.{fresh_record, Reply}
 use Rattle.call_rules.specs.Interrupt.{interrupt_call}
 use Rattle.call_rules.proofs.Late.{again}
 use Rattle.round_rules.specs.Poll.{poll_call}
@@ -25,13 +24,13 @@ use Rattle.history.specs.Driver.{event, interrupt_event, arrival_event, driver}
 use Rattle.history.specs.Late.{rounds_from, LateCostsNothing}
 
 -- only a poll is a round
-interrupt_none : (a : Reply) (k : Record) → is_round (interrupt_event a k) ≡ false
-interrupt_none reply.Done k = refl
-interrupt_none (reply.Refused x) k = refl
+interrupt_none : (a : Reply Unit) (k : Record) → is_round (interrupt_event a k) ≡ false
+interrupt_none (Ok tt) k = refl
+interrupt_none (Err x) k = refl
 
-arrival_none : (a : Reply) (e : ℕ) → is_round (arrival_event a e) ≡ false
-arrival_none reply.Done e = refl
-arrival_none (reply.Refused x) e = refl
+arrival_none : (a : Reply Unit) (e : ℕ) → is_round (arrival_event a e) ≡ false
+arrival_none (Ok tt) e = refl
+arrival_none (Err x) e = refl
 
 other_none : (k : Record) (o : Op) → between (kind o) → is_round (event k o) ≡ false
 other_none k (alloc_ep q w) c = refl

@@ -1,5 +1,6 @@
 -- T-11 over histories of the display, computed: the two turns of the display team, three interrupts with calls between, polls on the way, and why a poll is excepted. Unfolds the register
 -- model, as proofs/Histories.antt does. Assumes nothing.
+use Rattle.std.specs.Prelude.{Ok}
 use mathlib.Core.Path.{◌≡◌, refl, sym, ap, subst, ◌∙◌}
 use mathlib.Core.Bool.{Bool, true, false}
 use mathlib.Core.List.{List, [], ◌∷◌, map}
@@ -27,7 +28,6 @@ use Rattle.round_rules.specs.Poll.{ended, walked_on, accepted_on, round_out, pol
 use Rattle.host_rules.specs.Host.{collected_from}
 use Rattle.record.specs.declared.Record.{Record}
 use Rattle.round_rules.specs.declared.PollResult.TheVariants.{None, Reset}
-use Rattle.round_rules.specs.declared.PollAnswer.TheVariants.{Done}
 use Rattle.calls.specs.Late.{Joined, end, kept, out}
 use Rattle.rounds.specs.Machine.{Event, names, after}
 use Rattle.history.specs.Late.{rounds_from}
@@ -86,8 +86,8 @@ record Computed : Type 0 where
   rounds : map names_1_5 (rounds_from sample sample.fresh polled_once) ≡ ((true ∷ false ∷ []) ∷ (false ∷ true ∷ []) ∷ [])
   told : (leaves told_between).irq.reset ≡ false
   untold : (leaves across).irq.reset ≡ true
-  first : replies (reset ∷ irq ∷ []) ≡ Done Reset
-  not_first : replies (reset ∷ []) ≡ Done None
+  first : replies (reset ∷ irq ∷ []) ≡ Ok Reset
+  not_first : replies (reset ∷ []) ≡ Ok None
 
 computed : Computed
 unfolding bit raised clear bits_below set_bits fresh_file fresh_regs index with_index intrusb with_intrusb intr_of with_intr side_word side_of side_in with_side_in side_at with_side csr0l_read txcsrl_of rxcsrl_of tx_stored rx_stored txcsrl_set rxcsrl_set dropped listed listing with_own write_index write_txcsrl write_rxcsrl modify_txcsrl modify_rxcsrl write_packet interrupting waiting_at arrived collected bus_raised bus_reset bus_resume bus_suspend intrusb_cleared intr_cleared under_run_cleared over_run_cleared repaired numbers repaired_below fresh_record write.own_tests_at write.not_writable write-write.write_done write-write.loaded write-write.sent write-write.sent_other read.own_tests_at read.not_readable read.not_setup read.overflows read-read.read_done read-read.got read-read.read_other collected_from snapshot_of cleared bus_taken raised_if endpoint_taken endpoints_taken taken endpoint_zero accepted_by accept_step ready_at drained visit walked told ended walked_on accepted_on round_out poll_logged
@@ -144,8 +144,8 @@ not_across_poll same =
     subst T flag tt
 
 -- and the poll between answers otherwise
-pub told_reset : answers (reset ∷ irq ∷ []) ≡ Done Reset
+pub told_reset : answers (reset ∷ irq ∷ []) ≡ Ok Reset
 told_reset = answers_is (reset ∷ irq ∷ []) ∙ computed.first
 
-pub told_nothing : answers (reset ∷ []) ≡ Done None
+pub told_nothing : answers (reset ∷ []) ≡ Ok None
 told_nothing = answers_is (reset ∷ []) ∙ computed.not_first

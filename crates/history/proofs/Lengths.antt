@@ -1,4 +1,6 @@
 -- Over every operation: what waits has the length that it arrived with. Assumes nothing.
+use Rattle.std.specs.Prelude.{Err, Ok}
+use Rattle.record.specs.Record.{Reply}
 use mathlib.Core.Path.{◌≡◌, refl, sym, ap, subst, ◌∙◌}
 use mathlib.Core.Bool.{Bool, not, cond, ◌&&◌}
 use mathlib.Core.List.{List}
@@ -14,8 +16,6 @@ use Rattle.event_rules.specs.Events.{received}
 use Rattle.event_rules.specs.Promise as events
 use Rattle.event_rules.proofs.Promises as promised
 use Rattle.record.specs.declared.Record.{Record}
-use Rattle.record.specs.declared.Admission.{Admission}
-use Rattle.record.specs.declared.Admission.TheVariants.{Clear, Refused}
 use Rattle.call_rules.specs.Interrupt.{interrupt_call}
 use Rattle.round_rules.specs.Poll.{poll_call}
 use Rattle.host_rules.specs.Host.{Arrival, arrival_call}
@@ -38,7 +38,7 @@ module _ (b : Board) (k : Record) (kept : Kept b k) (e : ℕ) where
     abbrev side : Bool → Side
     side here = cond here (received (length bytes) (side_at k.regs.words e Out)) (side_at k.regs.words e Out)
 
-    arrived : refusal k i bytes f ≡ Clear → length_at (arrival_of k i bytes f Clear).event.«record» e ≡ (side (eqb e i)).len
+    arrived : refusal k i bytes f ≡ (Ok tt) → length_at (arrival_of k i bytes f (Ok tt)).event.«record» e ≡ (side (eqb e i)).len
     arrived p =
         ap (λ (s : Side). s.len)
         (promised.sides (events.arrival i (length bytes)) k.regs.words e Out kept.good.six (there k i (length bytes) (length f) p))
@@ -46,16 +46,16 @@ module _ (b : Board) (k : Record) (kept : Kept b k) (e : ℕ) where
     abbrev Arrives : Arrival → Type 0
     Arrives o = T (arrives_at e (arrival_event o.event.answer i)) → length_at o.event.«record» e ≡ brings (arrival i bytes f)
 
-    comes : (x : Admission) → refusal k i bytes f ≡ x → Arrives (arrival_of k i bytes f x)
-    comes (Refused x) p t = absurd t
-    comes Clear p t = arrived p ∙ ap (λ (here : Bool). (side here).len) (eq-eqb e i (sym (eqb→eq i e t)))
+    comes : (x : Reply Unit) → refusal k i bytes f ≡ x → Arrives (arrival_of k i bytes f x)
+    comes (Err x) p t = absurd t
+    comes (Ok tt) p t = arrived p ∙ ap (λ (here : Bool). (side here).len) (eq-eqb e i (sym (eqb→eq i e t)))
 
     abbrev Stays : Arrival → Type 0
     Stays o = T (waiting k e) → length_at o.event.«record» e ≡ length_at k e
 
-    stays : (x : Admission) → refusal k i bytes f ≡ x → Stays (arrival_of k i bytes f x)
-    stays (Refused x) p w = refl
-    stays Clear p w =
+    stays : (x : Reply Unit) → refusal k i bytes f ≡ x → Stays (arrival_of k i bytes f x)
+    stays (Err x) p w = refl
+    stays (Ok tt) p w =
         arrived p
         ∙ ap (λ (here : Bool). (side here).len) (ne_eqb e i (λ q. subst T (none_waited k i (length bytes) (length f) p) (subst (λ (m : ℕ). T (waiting k m)) q w)))
 

@@ -1,4 +1,5 @@
 -- Over every operation: at endpoints 1 to 5 there waits what arrived and was not taken. Assumes nothing.
+use Rattle.std.specs.Prelude.{Err, Ok}
 use mathlib.Core.Path.{◌≡◌, refl, sym, ap, subst, ◌∙◌}
 use mathlib.Core.Bool.{Bool, true, false, not, cond, ◌&&◌, ◌||◌, and-true}
 use mathlib.Core.List.{List}
@@ -19,9 +20,7 @@ use Rattle.event_rules.specs.Events.{lapsed, received}
 use Rattle.event_rules.specs.Promise as events
 use Rattle.event_rules.proofs.Promises as promised
 use Rattle.record.specs.declared.Record.{Record}
-use Rattle.record.specs.declared.Admission.{Admission}
-use Rattle.record.specs.declared.Admission.TheVariants.{Clear, Refused}
-use Rattle.record.specs.Record.{fresh_record, endpoints_in, endpoints_of}
+use Rattle.record.specs.Record.{fresh_record, endpoints_in, endpoints_of, Reply}
 use Rattle.call_rules.specs.Interrupt.{interrupt_call}
 use Rattle.round_rules.specs.Poll.{poll_call}
 use Rattle.host_rules.specs.Host.{Arrival}
@@ -61,10 +60,10 @@ module _ (b : Board) (k : Record) (kept : Kept b k) (e : ℕ) (ep : Endpoint (dr
 
   -- an arrival: the packet waits where it came, and every other where it was
   module _ (i : ℕ) (bytes f : List ℕ) where
-    arrived : (x : Admission) → refusal k i bytes f ≡ x
+    arrived : (x : Reply Unit) → refusal k i bytes f ≡ x
         → Lasts (arrival_of k i bytes f x).event.«record» (arrival_event (arrival_of k i bytes f x).event.answer i) false
-    arrived (Refused x) p = sym (and-true (waiting k e))
-    arrived Clear p =
+    arrived (Err x) p = sym (and-true (waiting k e))
+    arrived (Ok tt) p =
         ap (λ (s : Side). s.ready)
         (promised.sides (events.arrival i (length bytes)) k.regs.words e Out six (there k i (length bytes) (length f) p))
         ∙ here (ℕ_discrete e i)

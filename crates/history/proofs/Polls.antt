@@ -1,4 +1,6 @@
 -- What a poll does: refused, a pause, or a round. Assumes nothing.
+use Rattle.std.specs.Prelude.{Err, Ok}
+use Rattle.round_rules.specs.declared.PollResult.{PollResult}
 use mathlib.Core.Path.{◌≡◌, refl, sym, ap, subst, ◌∙◌}
 use mathlib.Core.Bool.{Bool, true, false, not, cond, ◌||◌}
 use mathlib.Core.List.{List}
@@ -20,16 +22,12 @@ use Rattle.common_rules.specs.Overrun.{check_overrun}
 use Rattle.record.specs.declared.Flags.{Flags}
 use Rattle.record.specs.declared.Record.{Record}
 use Rattle.record.specs.declared.Refusal.TheVariants.{TooLittleLent}
-use Rattle.record.specs.declared.Admission.{Admission}
-use Rattle.record.specs.declared.Admission.TheVariants as admission
-use Rattle.record.specs.Record.{admission_by, record_sound, endpoints_in, endpoints_of, with_tx, with_rx}
+use Rattle.record.specs.Record.{admission_by, record_sound, endpoints_in, endpoints_of, with_tx, with_rx, Reply}
 use Rattle.record.proofs.Passing.{sound_record_passes}
 use Rattle.round_rules.specs.Zero.{endpoint_zero, accept_step}
 use Rattle.round_rules.specs.Walk.{walked}
 use Rattle.round_rules.specs.Round.{masks, told}
 use Rattle.round_rules.specs.declared.PollResult.TheVariants.{None, Data, Reset, Resume, Suspend}
-use Rattle.round_rules.specs.declared.PollAnswer.{PollAnswer}
-use Rattle.round_rules.specs.declared.PollAnswer.TheVariants as polled
 use Rattle.round_rules.specs.Poll.{PollOutcome, outcome_of, ended, walked_on, accepted_on, round_out, poll_by, poll_logged, poll_served, poll_when, poll_admitted, poll_call}
 use Rattle.round_rules.proofs.Drained.{left_by, none_new, ready_stays, false_naming}
 use Rattle.rounds.specs.Machine.{Event, count, is_answered_poll}
@@ -57,19 +55,19 @@ told_names out sent setup = go (eqb sent 0) (eqb out 0) setup refl refl
     go true true false p q = λ i. rounds.round (none_named out (eqb-true out 0 q) i) (none_named sent (eqb-true sent 0 p) i)
 
 -- the answer Suspend, which no round gives
-abbrev says_suspend : PollAnswer → Bool
-says_suspend (polled.Done None) = false
-says_suspend (polled.Done (Data m)) = false
-says_suspend (polled.Done Reset) = false
-says_suspend (polled.Done Resume) = false
-says_suspend (polled.Done Suspend) = true
-says_suspend (polled.Refused x) = false
+abbrev says_suspend : Reply PollResult → Bool
+says_suspend (Ok None) = false
+says_suspend (Ok (Data m)) = false
+says_suspend (Ok Reset) = false
+says_suspend (Ok Resume) = false
+says_suspend (Ok Suspend) = true
+says_suspend (Err x) = false
 
-told_awake : (out sent : ℕ) (setup : Bool) → says_suspend (polled.Done (told out sent setup)) ≡ false
+told_awake : (out sent : ℕ) (setup : Bool) → says_suspend (Ok (told out sent setup)) ≡ false
 unfolding told
 told_awake out sent setup = go (not (eqb sent 0) || not (eqb out 0) || setup)
   where
-    go : (b : Bool) → says_suspend (polled.Done (cond b (Data (masks out sent setup)) None)) ≡ false
+    go : (b : Bool) → says_suspend (Ok (cond b (Data (masks out sent setup)) None)) ≡ false
     go true = refl
     go false = refl
 
@@ -185,12 +183,12 @@ module _ (b : Board) (k : Record) (kept : Kept b k) where
           less = less;
         }
 
-    abbrev when_tested : Admission → PollOutcome
+    abbrev when_tested : Reply Unit → PollOutcome
     when_tested t = outcome_of k (poll_when t k.regs.board (log k.regs.words l 0) k.control_state k.irq)
 
     -- the outcome by what is tested: too short a list, then the flags of reset, resume and suspend
     abbrev poll_of : Bool → Bool → Bool → Bool → PollOutcome
-    poll_of true r m u = when_tested (admission.Refused TooLittleLent)
+    poll_of true r m u = when_tested (Err TooLittleLent)
     poll_of false r m u = by_flags r m u
 
     poll_is : (short r m u : Bool) → ltb (length l) 384 ≡ short → k.irq.reset ≡ r → k.irq.resume ≡ m → k.irq.suspend ≡ u
@@ -218,7 +216,7 @@ module _ (b : Board) (k : Record) (kept : Kept b k) where
         (by_tests (ltb (length l) 384) k.irq.reset k.irq.resume k.irq.suspend refl refl refl (subst SameDue is due))
 
     -- a poll that says Suspend leaves none of the three flags up: Suspend is the last that is reported before a round
-    asleep : (short r m u : Bool) → k.irq.reset ≡ r → k.irq.resume ≡ m → (poll_of short r m u).result.answer ≡ polled.Done Suspend
+    asleep : (short r m u : Bool) → k.irq.reset ≡ r → k.irq.resume ≡ m → (poll_of short r m u).result.answer ≡ Ok Suspend
         → (look b).up (poll_of short r m u).result.«record» ≡ 0
     unfolding round_out accepted_on walked_on ended
     asleep true r m u er em p = clash (sym (ap says_suspend p))
@@ -227,7 +225,7 @@ module _ (b : Board) (k : Record) (kept : Kept b k) where
     asleep false false false true er em p = omega (arith, ap count er, ap count em)
     asleep false false false false er em p = clash (sym (ap says_suspend p) ∙ told_awake _ _ _)
 
-    pub suspend_leaves_none : (poll_call k l).result.answer ≡ polled.Done Suspend → (look b).up (poll_call k l).result.«record» ≡ 0
+    pub suspend_leaves_none : (poll_call k l).result.answer ≡ Ok Suspend → (look b).up (poll_call k l).result.«record» ≡ 0
     suspend_leaves_none p =
         let is = poll_is (ltb (length l) 384) k.irq.reset k.irq.resume k.irq.suspend refl refl refl refl in
         ap (λ (o : PollOutcome). (look b).up o.result.«record») is

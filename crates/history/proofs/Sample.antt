@@ -1,5 +1,7 @@
 -- A few operations on the display, lent what they need, as a machine that computes: the board's table stands written out, and that a
 -- record passes reply 16's test is known. Its histories are the driver's own. Assumes nothing.
+use Rattle.std.specs.Prelude.{Err, Ok}
+use Rattle.round_rules.specs.declared.PollResult.{PollResult}
 use mathlib.Core.Path.{◌≡◌, refl, sym, ap, subst, ◌∙◌}
 use mathlib.Core.Bool.{Bool, true, false, not, ◌&&◌, ◌||◌, cond}
 use mathlib.Core.List.{List, [], ◌∷◌, map}
@@ -17,9 +19,7 @@ use Rattle.store_rules.specs.Stores.{log}
 use Rattle.event_rules.specs.Events as events
 use Rattle.common_rules.specs.Overrun.{repaired_below, check_overrun}
 use Rattle.record.specs.declared.Record.{Record}
-use Rattle.record.specs.declared.Admission.{Admission}
-use Rattle.record.specs.declared.Admission.TheVariants.{Clear, Refused}
-use Rattle.record.specs.Record.{fresh_record, record_sound, admission_by, area_in, area_of, need_in, need_of, endpoints_in, endpoints_of}
+use Rattle.record.specs.Record.{fresh_record, record_sound, admission_by, area_in, area_of, need_in, need_of, endpoints_in, endpoints_of, Reply}
 use Rattle.record.proofs.Passing.{sound_record_passes}
 use Rattle.transfer_rules.specs.Peek.{short_in, has_tx_pkt_rdy, tests_by}
 use Rattle.transfer_rules.specs.WriteZero.{tx_size}
@@ -29,7 +29,6 @@ use Rattle.transfer_rules.specs.Write as write-write
 use Rattle.transfer_rules.specs.ReadTests as read
 use Rattle.transfer_rules.specs.Read as read-read
 use Rattle.call_rules.specs.Interrupt.{snapshot_of, cleared, taken, interrupted, interrupt_by, interrupt_call}
-use Rattle.round_rules.specs.declared.PollAnswer.{PollAnswer}
 use Rattle.round_rules.specs.Poll.{PollOutcome, outcome_of, poll_logged, poll_served, poll_when, poll_admitted, poll_call}
 use Rattle.host_rules.specs.Host as host
 use Rattle.calls.specs.Calls.{Op, step}
@@ -80,15 +79,15 @@ irq_in true t k = record {
 }
 irq_in false t k = k
 
-abbrev pub poll_in : Admission → List Row → Record → PollOutcome
-poll_in (Refused x) t k = outcome_of k (poll_when (Refused x) k.regs.board (log k.regs.words list 0) k.control_state k.irq)
-poll_in Clear t k = outcome_of k (poll_logged (repaired_below (length t) (log k.regs.words list 0)) k.control_state k.irq)
+abbrev pub poll_in : Reply Unit → List Row → Record → PollOutcome
+poll_in (Err x) t k = outcome_of k (poll_when (Err x) k.regs.board (log k.regs.words list 0) k.control_state k.irq)
+poll_in (Ok tt) t k = outcome_of k (poll_logged (repaired_below (length t) (log k.regs.words list 0)) k.control_state k.irq)
 
 module _ (t : List Row) (passes : Bool) (k : Record) where
-  abbrev entry_in : ℕ → Admission
+  abbrev entry_in : ℕ → Reply Unit
   entry_in e = admission_by (ltb (length fifo) (total t)) passes (leb (length t) e)
 
-  abbrev both_in : ℕ → Admission
+  abbrev both_in : ℕ → Reply Unit
   both_in e = admission_by (ltb (length fifo) (total t) || ltb (length list) 384) passes (leb (length t) e)
 
   abbrev arrive_in : ℕ → host.Arrival
@@ -127,7 +126,7 @@ module _ (t : List Row) (passes : Bool) (k : Record) where
   step_in irq = irq_in passes t k
   step_in poll = (poll_in (admission_by (ltb (length list) 384) passes false) t k).result.«record»
 
-  abbrev pub answer_in : PollAnswer
+  abbrev pub answer_in : Reply PollResult
   answer_in = (poll_in (admission_by (ltb (length list) 384) passes false) t k).result.answer
 
   abbrev pub event_in : Do → Event
@@ -142,11 +141,11 @@ module _ (t : List Row) (passes : Bool) (k : Record) where
   event_in poll = poll_event answer_in
 
 -- the driver's are these, over its own table
-pub poll_in_lem : (k : Record) (x : Admission)
+pub poll_in_lem : (k : Record) (x : Reply Unit)
     → outcome_of k (poll_when x k.regs.board (log k.regs.words list 0) k.control_state k.irq) ≡ poll_in x (rows k.regs.board) k
 unfolding poll_served check_overrun endpoints_in
-poll_in_lem k (Refused x) = refl
-poll_in_lem k Clear = refl
+poll_in_lem k (Err x) = refl
+poll_in_lem k (Ok tt) = refl
 
 pub irq_in_lem : (k : Record) (passes : Bool) → (interrupt_by passes k).«record» ≡ irq_in passes (rows k.regs.board) k
 unfolding interrupted endpoints_in endpoints_of
@@ -165,7 +164,7 @@ step_in_lem k suspend = refl
 step_in_lem k irq = irq_in_lem k (record_sound k)
 step_in_lem k poll = ap (λ (o : PollOutcome). o.result.«record») (poll_in_lem k (admission_by (ltb (length list) 384) (record_sound k) false))
 
-abbrev pub answer : Record → PollAnswer
+abbrev pub answer : Record → Reply PollResult
 answer k = (poll_call k list).result.answer
 
 answer_in_lem : (k : Record) → answer k ≡ answer_in (rows k.regs.board) (record_sound k) k
@@ -291,10 +290,10 @@ next_round h k p w =
     }
 
 -- what a poll after a history answers, and what it gives
-abbrev pub answers : List Do → PollAnswer
+abbrev pub answers : List Do → Reply PollResult
 answers h = answer (after M (ops h))
 
-abbrev pub replies : List Do → PollAnswer
+abbrev pub replies : List Do → Reply PollResult
 replies h = answer_in display true (after sample h)
 
 pub answers_is : (h : List Do) → answers h ≡ replies h

@@ -1,4 +1,6 @@
 -- Every operation keeps the step laws: the driver is lawful. Assumes nothing.
+use Rattle.std.specs.Prelude.{Err, Ok}
+use Rattle.round_rules.specs.declared.PollResult.{PollResult}
 use mathlib.Core.Path.{◌≡◌, refl, sym, subst, ◌∙◌}
 use mathlib.Core.Bool.{false, not}
 use Prim.Native.Nat.{ℕ}
@@ -14,15 +16,9 @@ use Rattle.event_rules.specs.Promise.{happens, raises}
 use Rattle.event_rules.proofs.Promises.{pending}
 use Rattle.record.specs.declared.Flags.{Flags}
 use Rattle.record.specs.declared.Record.{Record}
-use Rattle.record.specs.declared.Admission.{Admission}
-use Rattle.record.specs.declared.Admission.TheVariants.{Clear, Refused}
-use Rattle.record.specs.Record.{admission_by, record_sound}
-use Rattle.record.specs.declared.Reply.{Reply}
-use Rattle.record.specs.declared.Reply.TheVariants as reply
+use Rattle.record.specs.Record.{admission_by, record_sound, Reply}
 use Rattle.call_rules.specs.Interrupt.{interrupt_call}
 use Rattle.round_rules.specs.declared.PollResult.TheVariants.{None, Data, Reset, Resume, Suspend}
-use Rattle.round_rules.specs.declared.PollAnswer.{PollAnswer}
-use Rattle.round_rules.specs.declared.PollAnswer.TheVariants as polled
 use Rattle.round_rules.specs.Poll.{poll_call}
 use Rattle.host_rules.specs.Host as host
 use Rattle.calls.specs.Calls.{Op, alloc_ep, bus_init, enable, reset, set_device_address, write, read, set_stalled, is_stalled, poll, on_interrupt, force_reset, arrival, collection, bus_reset, suspend, resume, setup_end, underrun, overrun, step}
@@ -40,17 +36,17 @@ use Rattle.history.proofs.Interrupts.{interrupt_does}
 use Rattle.history.proofs.Calm.{alloc_ep_call_lem, bus_init_call_lem, enable_call_lem, reset_call_lem, address_call_lem, set_stalled_call_lem, is_stalled_call_lem, read_call_lem, write_call_lem}
 
 -- no poll and no interrupt is an arrival
-pub poll_brings_none : (i : ℕ) (a : PollAnswer) → T (not (arrives_at i (poll_event a)))
-poll_brings_none i (polled.Done None) = tt
-poll_brings_none i (polled.Done (Data m)) = tt
-poll_brings_none i (polled.Done Reset) = tt
-poll_brings_none i (polled.Done Resume) = tt
-poll_brings_none i (polled.Done Suspend) = tt
-poll_brings_none i (polled.Refused x) = tt
+pub poll_brings_none : (i : ℕ) (a : Reply PollResult) → T (not (arrives_at i (poll_event a)))
+poll_brings_none i (Ok None) = tt
+poll_brings_none i (Ok (Data m)) = tt
+poll_brings_none i (Ok Reset) = tt
+poll_brings_none i (Ok Resume) = tt
+poll_brings_none i (Ok Suspend) = tt
+poll_brings_none i (Err x) = tt
 
-pub interrupt_brings_none : (i : ℕ) (a : Reply) (k : Record) → T (not (arrives_at i (interrupt_event a k)))
-interrupt_brings_none i reply.Done k = tt
-interrupt_brings_none i (reply.Refused x) k = tt
+pub interrupt_brings_none : (i : ℕ) (a : Reply Unit) (k : Record) → T (not (arrives_at i (interrupt_event a k)))
+interrupt_brings_none i (Ok tt) k = tt
+interrupt_brings_none i (Err x) k = tt
 
 pub one_place : (k : Record) (o : Op) (i : ℕ) → T (waiting k i) → T (not (arrives_at i (event k o)))
 one_place k (poll l) i w = poll_brings_none i (poll_call k l).result.answer
@@ -83,17 +79,17 @@ module _ (b : Board) (k : Record) (kept : Kept b k) where
   flags_same o s p = stored o s (subst (λ (f : Flags). Alike k.irq f) (sym p) (same k.irq (small b k kept)))
 
   -- a host event other than an arrival, refused or not
-  event_does : (x : Admission) (o : events.Event) → raises o Out (intr_of k.regs.words Out) ≡ intr_of k.regs.words Out
+  event_does : (x : Reply Unit) (o : events.Event) → raises o Out (intr_of k.regs.words Out) ≡ intr_of k.regs.words Out
       → Quiet (look b) k (host.unless x k (happens o k.regs.words)).«record»
-  event_does (Refused x) o due = unchanged (look b) k k refl refl refl refl
-  event_does Clear o due = calm b k _ (same k.irq (small b k kept)) (pending o k.regs.words Out kept.good.six ∙ due)
+  event_does (Err x) o due = unchanged (look b) k k refl refl refl refl
+  event_does (Ok tt) o due = calm b k _ (same k.irq (small b k kept)) (pending o k.regs.words Out kept.good.six ∙ due)
 
-  collects : (x : Admission) (e : ℕ) → Quiet (look b) k (host.unless_collected x k (host.collected_from k e)).«record»
+  collects : (x : Reply Unit) (e : ℕ) → Quiet (look b) k (host.unless_collected x k (host.collected_from k e)).«record»
   unfolding host.collected_from
-  collects (Refused x) e = unchanged (look b) k k refl refl refl refl
-  collects Clear e = event_does Clear (events.collection e) refl
+  collects (Err x) e = unchanged (look b) k k refl refl refl refl
+  collects (Ok tt) e = event_does (Ok tt) (events.collection e) refl
 
-  abbrev plain : Admission
+  abbrev plain : Reply Unit
   plain = admission_by false (record_sound k) false
 
   pub does : (o : Op) → Does (look b) k (event k o) (step k o)

@@ -1,5 +1,6 @@
 -- T-02's promises hold (specs/Whole.antt). A packet's bytes stand in its endpoint's receive area: a write fills another area, and no packet arrives where one waits.
 -- Assumes nothing.
+use Rattle.std.specs.Prelude.{Err, Ok}
 use Prim.Native.Nat.{ℕ, ◌+◌, ◌≤◌, ◌<◌}
 use mathlib.Core.Path.{◌≡◌, refl, sym, ap, subst, ◌∙◌}
 use mathlib.Core.Bool.{Bool, true, false, not, ◌&&◌, ◌||◌}
@@ -23,11 +24,7 @@ use Rattle.board.specs.Boards.{at_least_one}
 use Rattle.control_state.specs.declared.ControlStateEnum.TheVariants.{DataOut}
 use Rattle.register_file.specs.Registers.{Whole}
 use Rattle.record.specs.declared.Record.{Record}
-use Rattle.record.specs.declared.Reply.{Reply}
-use Rattle.record.specs.declared.Reply.TheVariants as reply
-use Rattle.record.specs.declared.Admission.{Admission}
-use Rattle.record.specs.declared.Admission.TheVariants.{Clear, Refused}
-use Rattle.record.specs.Record.{area_in, area_of, need_in, need_of, endpoints_in, endpoints_of, reply_number}
+use Rattle.record.specs.Record.{area_in, area_of, need_in, need_of, endpoints_in, endpoints_of, reply_number, Reply}
 use Rattle.record.specs.Bytes.{Fills}
 use Rattle.record.proofs.Areas.{areas_apart}
 use Rattle.record.proofs.Numbers.{not_zero}
@@ -126,9 +123,9 @@ module _ (k : Record) (f : List ℕ) (e : ℕ) where
         same_place : place e Out ≡ place i Out → e ≡ i
         same_place q = omega (arith, q)
 
-        go : (x : Admission) → refusal k i b f ≡ x → Leaves n (arrival_of k i b f x).fifo
-        go (Refused x) p = (refl, refl)
-        go Clear p =
+        go : (x : Reply Unit) → refusal k i b f ≡ x → Leaves n (arrival_of k i b f x).fifo
+        go (Err x) p = (refl, refl)
+        go (Ok tt) p =
             elsewhere i Out b
             (λ q. subst T (none_waited k i (length b) (length f) p) (subst (λ (j : ℕ). T (waiting k j)) (same_place q) w)) refl (fills_clear k i b f p)
 
@@ -346,23 +343,23 @@ module _ (k : Record) (g : Kept (board_of k) k) (e : ℕ) (ep : Endpoint (driver
   comes : T (arrives_at e (event k (arrival e b f)))
   comes = go (arrival_call k e b f).event.answer z
     where
-      go : (a : Reply) → reply_number a ≡ 0 → T (arrives_at e (arrival_event a e))
-      go reply.Done p = eqb_refl e
-      go (reply.Refused x) p = absurd (not_zero x p)
+      go : (a : Reply Unit) → reply_number a ≡ 0 → T (arrives_at e (arrival_event a e))
+      go (Ok tt) p = eqb_refl e
+      go (Err x) p = absurd (not_zero x p)
 
-  clear : refusal k e b f ≡ Clear
+  clear : refusal k e b f ≡ (Ok tt)
   clear = go (refusal k e b f) refl
     where
-      go : (x : Admission) → refusal k e b f ≡ x → refusal k e b f ≡ Clear
-      go Clear p = p
-      go (Refused x) p =
-          absurd (not_zero x (sym (ap (λ (a : Arrival). reply_number a.event.answer) (arrival_is k e b f (Refused x) p)) ∙ z))
+      go : (x : Reply Unit) → refusal k e b f ≡ x → refusal k e b f ≡ (Ok tt)
+      go (Ok tt) p = p
+      go (Err x) p =
+          absurd (not_zero x (sym (ap (λ (a : Arrival). reply_number a.event.answer) (arrival_is k e b f (Err x) p)) ∙ z))
 
   fill : Fills (area_of k e Out) b f (pasted f (area_of k e Out).start b)
   fill = fills_clear k e b f clear
 
   filled_is : filled ≡ pasted f (area_of k e Out).start b
-  filled_is = ap (λ (a : Arrival). a.fifo) (arrival_is k e b f Clear clear)
+  filled_is = ap (λ (a : Arrival). a.fifo) (arrival_is k e b f (Ok tt) clear)
 
   needed : need_of k ≤ length f
   unfolding arrival_refusal arrival_refusal_in

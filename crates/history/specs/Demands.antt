@@ -2,12 +2,11 @@
 -- Demand 2, "same answers, same records, same register stores in the same order as the Rust", can't name the Rust: each call's contract holds the code to its
 -- definition, laws hold the definitions to the papers, and that they are what the Rust does, but for what document 02 changes, is compared, not proved (docs/PROMISES.md, 'Demand 2').
 -- Assumes nothing.
-use Rattle.std.specs.Prelude.{◌≡◌, not, List, [], ◌∷◌, ℕ, T}
+use Rattle.std.specs.Prelude.{◌≡◌, not, List, [], ◌∷◌, ℕ, T, Ok}
 use Rattle.board.specs.declared.Board.{Board}
 use Rattle.board.specs.declared.Board.TheVariants.{Display}
 use Rattle.record.specs.declared.Record.{Record}
 use Rattle.round_rules.specs.declared.PollResult.TheVariants.{Suspend}
-use Rattle.round_rules.specs.declared.PollAnswer.TheVariants.{Done}
 use Rattle.round_rules.specs.Poll.{poll_call}
 use Rattle.calls.specs.Calls.{Op, poll}
 use Rattle.calls.specs.Demand.{Answers}
@@ -37,7 +36,7 @@ pub record Demand3 (b : Board) : Type 0 where
 -- Document 02, T-06: "Mend it: reporting Suspend puts down the suspend flag [..]. Technicians close the lid between cranes and expect the download to go on when they open
 -- it." So Suspend is told once: after a poll that says it, and until another interrupt is taken, every answered poll is a round. Over any history, for any board.
 pub record Slept (b : Board) (h : List Op) (l : List ℕ) (k : List Op) (p : Op) : Type 0 where
-  pub told : (poll_call (after (driver b) h) l).result.answer ≡ Done Suspend
+  pub told : (poll_call (after (driver b) h) l).result.answer ≡ Ok Suspend
   pub between : T (not (some (driver b) is_interrupt (run (driver b) (after (driver b) h) (poll l ∷ [])) k))
   pub polled : T (is_answered_poll (event (run (driver b) (after (driver b) h) (poll l ∷ k)) p))
 

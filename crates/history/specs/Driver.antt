@@ -1,6 +1,6 @@
 -- The driver itself as a machine that is polled: demand 3's words, over demand 2's definitions of the calls.
 -- Assumes nothing.
-use Rattle.std.specs.Prelude.{◌≡◌, Bool, true, false, ◌&&◌, List, ℕ, ◌-◌, ◌≤◌, ◌<◌, eqb, length, get_or}
+use Rattle.std.specs.Prelude.{◌≡◌, Bool, true, false, ◌&&◌, List, ℕ, ◌-◌, ◌≤◌, ◌<◌, eqb, length, get_or, Err, Ok}
 use Rattle.laws.specs.Words.{bit}
 use Rattle.board.specs.declared.Board.{Board}
 use Rattle.board.specs.declared.Direction.TheVariants.{Out, In}
@@ -8,14 +8,10 @@ use Rattle.board.specs.Boards.{rows}
 use Rattle.register_file.specs.Registers.{side_at, intr_of}
 use Rattle.endpoints.specs.Endpoints.{blank}
 use Rattle.record.specs.declared.Record.{Record}
-use Rattle.record.specs.Record.{fresh_record, record_sound, endpoints_of, area_of, need_of}
-use Rattle.record.specs.declared.Reply.{Reply}
-use Rattle.record.specs.declared.Reply.TheVariants as reply
+use Rattle.record.specs.Record.{fresh_record, record_sound, endpoints_of, area_of, need_of, Reply}
 use Rattle.call_rules.specs.Interrupt.{interrupt_call}
 use Rattle.round_rules.specs.declared.PollResult.{PollResult}
 use Rattle.round_rules.specs.declared.PollResult.TheVariants.{None, Data, Reset, Resume, Suspend}
-use Rattle.round_rules.specs.declared.PollAnswer.{PollAnswer}
-use Rattle.round_rules.specs.declared.PollAnswer.TheVariants as polled
 use Rattle.round_rules.specs.Poll.{poll_call}
 use Rattle.host_rules.specs.Host.{arrival_call}
 use Rattle.calls.specs.Calls.{Op, alloc_ep, bus_init, enable, reset, set_device_address, write, read, set_stalled, is_stalled, poll, on_interrupt, force_reset, arrival, collection, bus_reset, suspend, resume, setup_end, underrun, overrun, step}
@@ -36,20 +32,20 @@ result_event Reset = pause
 result_event Resume = pause
 result_event Suspend = pause
 
-abbrev pub poll_event : PollAnswer → Event
-poll_event (polled.Done a) = result_event a
-poll_event (polled.Refused x) = quiet
+abbrev pub poll_event : Reply PollResult → Event
+poll_event (Ok a) = result_event a
+poll_event (Err x) = quiet
 
 -- "taken": an answered on_interrupt. The transmit bits that it read are those that the model's register held just before it, never the driver's flags.
 -- A packet's receive interrupt is taken by any interrupt after it arrived: its bit stands in the register until it is read.
-abbrev pub interrupt_event : Reply → Record → Event
-interrupt_event reply.Done k = interrupt (bit (intr_of k.regs.words In))
-interrupt_event (reply.Refused x) k = quiet
+abbrev pub interrupt_event : Reply Unit → Record → Event
+interrupt_event (Ok tt) k = interrupt (bit (intr_of k.regs.words In))
+interrupt_event (Err x) k = quiet
 
 -- "the packets that arrived": answered arrivals, over the whole history
-abbrev pub arrival_event : Reply → ℕ → Event
-arrival_event reply.Done e = rounds.arrival e
-arrival_event (reply.Refused x) e = quiet
+abbrev pub arrival_event : Reply Unit → ℕ → Event
+arrival_event (Ok tt) e = rounds.arrival e
+arrival_event (Err x) e = quiet
 
 abbrev pub event : Record → Op → Event
 event k (poll l) = poll_event (poll_call k l).result.answer

@@ -1,5 +1,6 @@
 -- An answered arrival puts its bytes into the first bytes of the endpoint's own receive area, and changes no other byte of FIFO memory.
 -- Assumes nothing.
+use Rattle.std.specs.Prelude.{Err, Ok}
 use Prim.Native.Nat.{ℕ}
 use mathlib.Core.Path.{◌≡◌, refl}
 use mathlib.Core.List.{List}
@@ -11,9 +12,7 @@ use Rattle.laws.specs.Lists.{pasted}
 use Rattle.board.specs.declared.Direction.TheVariants.{Out}
 use Rattle.register_file.specs.Registers.{side_at}
 use Rattle.record.specs.declared.Record.{Record}
-use Rattle.record.specs.declared.Admission.{Admission}
-use Rattle.record.specs.declared.Admission.TheVariants.{Clear, Refused}
-use Rattle.record.specs.Record.{area_in, area_of, reply_number}
+use Rattle.record.specs.Record.{area_in, area_of, reply_number, Reply}
 use Rattle.record.specs.Bytes.{Fills}
 use Rattle.record.proofs.Areas.{area_within}
 use Rattle.record.proofs.Bytes.{pasted_fills}
@@ -22,7 +21,7 @@ use Rattle.host_rules.specs.Host.{entry_at, arrival_refusal_in, arrival_refusal,
 use Rattle.host_rules.proofs.Host.{admitted, arrival_passed}
 
 module _ (k : Record) (e : ℕ) (b f : List ℕ) where
-  pub fills_clear : arrival_refusal k e (length b) (length f) ≡ Clear → Fills (area_of k e Out) b f (pasted f (area_of k e Out).start b)
+  pub fills_clear : arrival_refusal k e (length b) (length f) ≡ (Ok tt) → Fills (area_of k e Out) b f (pasted f (area_of k e Out).start b)
   unfolding arrival_refusal arrival_refusal_in area_of
   fills_clear c =
       let (p, short, _) = arrival_passed (entry_at k e (length f)) (ltb (area_in k.regs.board e Out).size (length b)) (side_at k.regs.words e Out).ready c in
@@ -32,7 +31,7 @@ module _ (k : Record) (e : ℕ) (b f : List ℕ) where
   unfolding arrival_call
   fills z = go (arrival_refusal k e (length b) (length f)) _ fills_clear z
     where
-      go : (t : Admission) (a : Arrival) → (t ≡ Clear → Fills (area_of k e Out) b f a.fifo) → reply_number (unless_arrived t k f a).event.answer ≡ 0
+      go : (t : Reply Unit) (a : Arrival) → (t ≡ (Ok tt) → Fills (area_of k e Out) b f a.fifo) → reply_number (unless_arrived t k f a).event.answer ≡ 0
           → Fills (area_of k e Out) b f (unless_arrived t k f a).fifo
-      go Clear a h z = h refl
-      go (Refused x) a h z = absurd (not_zero x z)
+      go (Ok tt) a h z = h refl
+      go (Err x) a h z = absurd (not_zero x z)

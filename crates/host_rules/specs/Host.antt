@@ -1,6 +1,8 @@
 -- What each host event gives back on the whole record, refused ones too.
 -- Assumes nothing.
-use Rattle.std.specs.Prelude.{ℕ, ◌+◌, ◌≤◌, ◌<◌, Bool, true, false, ◌||◌, List, [], ◌≡◌, eqb, leb, ltb, length, take, drop}
+use Rattle.std.specs.Prelude.{ℕ, ◌+◌, ◌≤◌, ◌<◌, Bool, true, false, ◌||◌, List, [], ◌≡◌, eqb, leb, ltb, length, take, drop, Err, Ok}
+use Rattle.board.specs.declared.Span.{Span}
+use Rattle.record.specs.declared.Answered.{Answered}
 use Rattle.laws.specs.Lists.{pasted}
 use Rattle.board.specs.declared.Board.{Board}
 use Rattle.board.specs.declared.Direction.{Direction}
@@ -11,40 +13,32 @@ use Rattle.record.specs.declared.Flags.{Flags}
 use Rattle.record.specs.declared.Record.{Record}
 use Rattle.record.specs.declared.Refusal.{Refusal}
 use Rattle.record.specs.declared.Refusal.TheVariants.{TooLong, OutOfTurn}
-use Rattle.record.specs.declared.Admission.{Admission}
-use Rattle.record.specs.declared.Admission.TheVariants.{Clear, Refused}
-use Rattle.record.specs.Record.{passes, record_sound, admission_by, endpoints_in, area_in, area_of, need_in, need_of, refusal_number, with_regs}
-use Rattle.record.specs.declared.Reply.{Reply}
-use Rattle.record.specs.declared.Reply.TheVariants as reply
-use Rattle.record.specs.declared.Answered.{Answered}
+use Rattle.record.specs.Record.{passes, record_sound, admission_by, endpoints_in, area_in, area_of, need_in, need_of, refusal_number, with_regs, Reply}
 use Rattle.host_rules.specs.declared.Signal.{Signal}
 use Rattle.host_rules.specs.declared.Signal.TheVariants.{Bus, SetupEnd}
-use Rattle.host_rules.specs.declared.CollectAnswer.{CollectAnswer}
-use Rattle.host_rules.specs.declared.CollectAnswer.TheVariants as collect
-use Rattle.host_rules.specs.declared.CollectCalled.{CollectCalled}
 
 -- document 01: "A refusal returns its number and changes nothing"
-abbrev pub refused : Record → Refusal → Answered
-refused k x = record { answer = reply.Refused x; «record» = k }
+abbrev pub refused : Record → Refusal → Answered (Reply Unit)
+refused k x = record { answer = Err x; «record» = k }
 
 -- the registers are all that an event changes
-abbrev pub done : Record → File → Answered
-done k r = record { answer = reply.Done; «record» = with_regs k r }
+abbrev pub done : Record → File → Answered (Reply Unit)
+done k r = record { answer = (Ok tt); «record» = with_regs k r }
 
 -- the tests decide first: what is answered,
-abbrev pub answer_by : Admission → Reply
-answer_by (Refused x) = reply.Refused x
-answer_by Clear = reply.Done
+abbrev pub answer_by : Reply Unit → Reply Unit
+answer_by (Err x) = Err x
+answer_by (Ok tt) = Ok tt
 
 -- what is left of a lent list of numbers, the registers or the FIFO buffer, that was r and becomes q,
-abbrev pub left_by : Admission → List ℕ → List ℕ → List ℕ
-left_by (Refused x) r q = r
-left_by Clear r q = q
+abbrev pub left_by : Reply Unit → List ℕ → List ℕ → List ℕ
+left_by (Err x) r q = r
+left_by (Ok tt) r q = q
 
 -- and both, on the whole record
-abbrev pub unless : Admission → Record → File → Answered
-unless (Refused x) k r = refused k x
-unless Clear k r = done k r
+abbrev pub unless : Reply Unit → Record → File → Answered (Reply Unit)
+unless (Err x) k r = refused k x
+unless (Ok tt) k r = done k r
 
 -- what happens at no endpoint: "bus reset, suspend, resume", "setup end"
 abbrev pub signalled : Signal → File → File
@@ -52,40 +46,40 @@ signalled (Bus o) r = bus_raised o r
 signalled SetupEnd r = setup_ended r
 
 -- 16 alone can refuse them
-unfoldable pub bus_reset_call : Record → Answered
+unfoldable pub bus_reset_call : Record → Answered (Reply Unit)
 bus_reset_call k = unless (admission_by false (record_sound k) false) k (bus_reset k.regs.words)
 
-unfoldable pub suspend_call : Record → Answered
+unfoldable pub suspend_call : Record → Answered (Reply Unit)
 suspend_call k = unless (admission_by false (record_sound k) false) k (bus_suspend k.regs.words)
 
-unfoldable pub resume_call : Record → Answered
+unfoldable pub resume_call : Record → Answered (Reply Unit)
 resume_call k = unless (admission_by false (record_sound k) false) k (bus_resume k.regs.words)
 
-unfoldable pub setup_end_call : Record → Answered
+unfoldable pub setup_end_call : Record → Answered (Reply Unit)
 setup_end_call k = unless (admission_by false (record_sound k) false) k (setup_ended k.regs.words)
 
 -- reply 8: "endpoint 6 or more", the board's own last endpoint being the highest, "(underrun, overrun: also 0)"
-abbrev pub miss_refusal_in : Board → File → Flags → ℕ → Admission
+abbrev pub miss_refusal_in : Board → File → Flags → ℕ → Reply Unit
 miss_refusal_in b w f e = admission_by false (passes b w f) (eqb e 0 || leb (endpoints_in b) e)
 
-abbrev pub miss_refusal : Record → ℕ → Admission
+abbrev pub miss_refusal : Record → ℕ → Reply Unit
 miss_refusal k e = miss_refusal_in k.regs.board k.regs.words k.irq e
 
-unfoldable pub miss_call : Record → ℕ → Direction → Answered
+unfoldable pub miss_call : Record → ℕ → Direction → Answered (Reply Unit)
 miss_call k e d = unless (miss_refusal k e) k (missing k.regs.words e d)
 
 -- "underrun, overrun (set UnderRun or OverRun, raise nothing)"
-unfoldable pub underrun_call : Record → ℕ → Answered
+unfoldable pub underrun_call : Record → ℕ → Answered (Reply Unit)
 underrun_call k e = miss_call k e In
 
-unfoldable pub overrun_call : Record → ℕ → Answered
+unfoldable pub overrun_call : Record → ℕ → Answered (Reply Unit)
 overrun_call k e = miss_call k e Out
 
 -- the first tests of an event at an endpoint that is lent m bytes of FIFO memory: 15, 16, 8
-abbrev pub entry_in : Board → File → Flags → ℕ → ℕ → Admission
+abbrev pub entry_in : Board → File → Flags → ℕ → ℕ → Reply Unit
 entry_in b w f e m = admission_by (ltb m (need_in b)) (passes b w f) (leb (endpoints_in b) e)
 
-abbrev pub entry_at : Record → ℕ → ℕ → Admission
+abbrev pub entry_at : Record → ℕ → ℕ → Reply Unit
 entry_at k e m = entry_in k.regs.board k.regs.words k.irq e m
 
 -- what they let through
@@ -95,26 +89,26 @@ pub record Admitted (k : Record) (e m : ℕ) : Type 0 where
   pub below : e < 6
 
 -- "arrival 9, 17": longer than its area, while one waits
-abbrev pub arrival_by : Admission → Bool → Bool → Admission
-arrival_by (Refused x) long waits = Refused x
-arrival_by Clear true waits = Refused TooLong
-arrival_by Clear false true = Refused OutOfTurn
-arrival_by Clear false false = Clear
+abbrev pub arrival_by : Reply Unit → Bool → Bool → Reply Unit
+arrival_by (Err x) long waits = Err x
+arrival_by (Ok tt) true waits = Err TooLong
+arrival_by (Ok tt) false true = Err OutOfTurn
+arrival_by (Ok tt) false false = Ok tt
 
-unfoldable pub arrival_refusal_in : Board → File → Flags → ℕ → ℕ → ℕ → Admission
+unfoldable pub arrival_refusal_in : Board → File → Flags → ℕ → ℕ → ℕ → Reply Unit
 arrival_refusal_in b w f e n m = arrival_by (entry_in b w f e m) (ltb (area_in b e Out).size n) (side_at w e Out).ready
 
-unfoldable pub arrival_refusal : Record → ℕ → ℕ → ℕ → Admission
+unfoldable pub arrival_refusal : Record → ℕ → ℕ → ℕ → Reply Unit
 arrival_refusal k e n m = arrival_refusal_in k.regs.board k.regs.words k.irq e n m
 
 -- all that an arrival leaves: what it gives back, and the lent FIFO buffer
 pub record Arrival : Type 0 where
-  pub event : Answered
+  pub event : Answered (Reply Unit)
   pub fifo : List ℕ
 
-abbrev pub unless_arrived : Admission → Record → List ℕ → Arrival → Arrival
-unless_arrived (Refused x) k f a = record { event = refused k x; fifo = f }
-unless_arrived Clear k f a = a
+abbrev pub unless_arrived : Reply Unit → Record → List ℕ → Arrival → Arrival
+unless_arrived (Err x) k f a = record { event = refused k x; fifo = f }
+unless_arrived (Ok tt) k f a = a
 
 -- "a write or arrival changes only the first bytes of its area"
 unfoldable pub arrival_call : Record → ℕ → List ℕ → List ℕ → Arrival
@@ -123,46 +117,46 @@ arrival_call k e b f =
     (record { event = done k (arrived k.regs.words e (length b)); fifo = pasted f (area_of k e Out).start b })
 
 -- "collection with none"
-abbrev pub collection_by : Admission → Bool → Admission
-collection_by (Refused x) waits = Refused x
-collection_by Clear true = Clear
-collection_by Clear false = Refused OutOfTurn
+abbrev pub collection_by : Reply Unit → Bool → Reply Unit
+collection_by (Err x) waits = Err x
+collection_by (Ok tt) true = Ok tt
+collection_by (Ok tt) false = Err OutOfTurn
 
-unfoldable pub collection_refusal_in : Board → File → Flags → ℕ → ℕ → Admission
+unfoldable pub collection_refusal_in : Board → File → Flags → ℕ → ℕ → Reply Unit
 collection_refusal_in b w f e m = collection_by (entry_in b w f e m) (side_at w e In).ready
 
-unfoldable pub collection_refusal : Record → ℕ → ℕ → Admission
+unfoldable pub collection_refusal : Record → ℕ → ℕ → Reply Unit
 collection_refusal k e m = collection_refusal_in k.regs.board k.regs.words k.irq e m
 
 -- "collection (gives the packet's place in the FIFO buffer and its length, then drops it, ..)"
-abbrev pub packet_in : Board → File → ℕ → CollectAnswer
-packet_in b w e = collect.Done (area_in b e In).start (side_at w e In).len
+abbrev pub packet_in : Board → File → ℕ → Reply Span
+packet_in b w e = Ok (record { start = (area_in b e In).start; size = (side_at w e In).len })
 
-unfoldable pub collected_from : Record → ℕ → CollectCalled
+unfoldable pub collected_from : Record → ℕ → Answered (Reply Span)
 collected_from k e = record { answer = packet_in k.regs.board k.regs.words e; «record» = with_regs k (collected k.regs.words e) }
 
 -- what is answered, the tests first
-abbrev pub collect_by : Admission → CollectAnswer → CollectAnswer
-collect_by (Refused x) a = collect.Refused x
-collect_by Clear a = a
+abbrev pub collect_by : Reply Unit → Reply Span → Reply Span
+collect_by (Err x) a = Err x
+collect_by (Ok tt) a = a
 
-abbrev pub unless_collected : Admission → Record → CollectCalled → CollectCalled
-unless_collected (Refused x) k a = record { answer = collect.Refused x; «record» = k }
-unless_collected Clear k a = a
+abbrev pub unless_collected : Reply Unit → Record → Answered (Reply Span) → Answered (Reply Span)
+unless_collected (Err x) k a = record { answer = Err x; «record» = k }
+unless_collected (Ok tt) k a = a
 
-unfoldable pub collection_call : Record → ℕ → List ℕ → CollectCalled
+unfoldable pub collection_call : Record → ℕ → List ℕ → Answered (Reply Span)
 collection_call k e f = unless_collected (collection_refusal k e (length f)) k (collected_from k e)
 
 -- the place that is given lies in the buffer
-abbrev pub InBuffer : CollectAnswer → List ℕ → Type 0
-InBuffer (collect.Done start len) f = start + len ≤ length f
-InBuffer (collect.Refused x) f = Unit
+abbrev pub InBuffer : Reply Span → List ℕ → Type 0
+InBuffer (Ok s) f = s.start + s.size ≤ length f
+InBuffer (Err x) f = Unit
 
 -- document 01's number of a collection's answer, and its values, the bytes
-abbrev pub collect_number : CollectAnswer → ℕ
-collect_number (collect.Done start len) = 0
-collect_number (collect.Refused x) = refusal_number x
+abbrev pub collect_number : Reply Span → ℕ
+collect_number (Ok s) = 0
+collect_number (Err x) = refusal_number x
 
-abbrev pub collect_values : CollectAnswer → List ℕ → List ℕ
-collect_values (collect.Done start len) f = take len (drop start f)
-collect_values (collect.Refused x) f = []
+abbrev pub collect_values : Reply Span → List ℕ → List ℕ
+collect_values (Ok s) f = take s.size (drop s.start f)
+collect_values (Err x) f = []

@@ -1,14 +1,13 @@
 -- Document 01's table of replies, the rows of the host's events, and what is promised of their answers.
 -- Assumes nothing.
-use Rattle.std.specs.Prelude.{ℕ, ◌≤◌, ◌<◌, ◌≡◌, ◌⊎◌, true, false, List, [], ◌∷◌}
+use Rattle.std.specs.Prelude.{ℕ, ◌≤◌, ◌<◌, ◌≡◌, ◌⊎◌, true, false, List, [], ◌∷◌, Ok}
+use Rattle.board.specs.declared.Span.{Span}
+use Rattle.record.specs.declared.Answered.{Answered}
 use Rattle.board.specs.declared.Direction.TheVariants.{Out, In}
 use Rattle.register_file.specs.Registers.{side_at}
 use Rattle.record.specs.declared.Record.{Record}
-use Rattle.record.specs.Record.{endpoints_of, area_of, need_of, SoundRecord, reply_number}
+use Rattle.record.specs.Record.{endpoints_of, area_of, need_of, SoundRecord, reply_number, Reply}
 use Rattle.record.specs.Rows.{Row, row, Replies}
-use Rattle.host_rules.specs.declared.CollectAnswer.TheVariants as collect
-use Rattle.record.specs.declared.Answered.{Answered}
-use Rattle.host_rules.specs.declared.CollectCalled.{CollectCalled}
 use Rattle.host_rules.specs.Host.{Arrival, collect_number}
 
 -- the rows of each event, in document 01's order, "15, 16, 8, then .. arrival 9, 17". What is not at an endpoint:
@@ -41,7 +40,7 @@ collection_rows k e m =
 
 -- an event's answer: its number is given exactly when its row is the first that holds, 0 where none does; a refused event leaves the record as
 -- it was
-pub record Answers (a : Answered) (k : Record) (rs : List Row) : Type 0 where
+pub record Answers (a : Answered (Reply Unit)) (k : Record) (rs : List Row) : Type 0 where
   pub replies : Replies (reply_number a.answer) rs
   pub unchanged : (reply_number a.answer ≡ 0 → ⊥) → a.«record» ≡ k
 
@@ -51,7 +50,7 @@ pub record Arrives (o : Arrival) (k : Record) (f : List ℕ) (rs : List Row) : T
   pub kept : (reply_number o.event.answer ≡ 0 → ⊥) → o.fifo ≡ f
 
 -- collection, whose answer has values: "the packet's place in the FIFO buffer and its length"
-pub record Collects (a : CollectCalled) (k : Record) (rs : List Row) (start len : ℕ) : Type 0 where
+pub record Collects (a : Answered (Reply Span)) (k : Record) (rs : List Row) (start len : ℕ) : Type 0 where
   pub replies : Replies (collect_number a.answer) rs
-  pub value : collect_number a.answer ≡ 0 → a.answer ≡ collect.Done start len
+  pub value : collect_number a.answer ≡ 0 → a.answer ≡ Ok (record { start = start; size = len })
   pub unchanged : (collect_number a.answer ≡ 0 → ⊥) → a.«record» ≡ k

@@ -4,22 +4,9 @@
 #![tactic(auto)]
 
 use event_rules::BusEvent;
-use record::{Record, Refusal};
-
-// The answer of a collection: where the packet stands in the FIFO buffer, start and length.
-#[derive(Clone, Copy)]
-pub enum CollectAnswer {
-    Done(usize, usize),
-    Refused(Refusal),
-}
-
-#[derive(Clone, Copy)]
-pub struct CollectCalled {
-    pub record: Record,
-    pub answer: CollectAnswer,
-}
 
 // What happens at no endpoint: a bus event, or SetupEnd.
+// (An enum and no closure: `signalled`, and with it each of the four calls' definitions, is over it.)
 #[derive(Clone, Copy)]
 pub enum Signal {
     Bus(BusEvent),

@@ -11,6 +11,7 @@ use std::io::{ErrorKind, Read};
 
 // Reads until the memory is full or the input ends, and gives how many bytes it has put to the front.
 // A read that was interrupted is made again. After another error the front may be overwritten, and how much was read is not known.
+// (By hand: std's `read_exact` fails at the input's end, `read_to_end` takes heap memory. The count is the result, which `bytes` speaks of.)
 pub fn read_full<R: Read>(from: &mut R, into: &mut [u8]) -> io::Result<usize>
     ensures bound { ReadsAtMost result into.new }
     ensures bytes { IfOk result (λ n. Consumes (R.remaining from.old) (R.remaining from.new) (take n into.new)) }

@@ -1,64 +1,56 @@
 // What `poll` of the source does for endpoint 0: the packet that waits there, by the control state, and the Accepted step.
+// A function that may list a store gives back how many stand in the list, with the source's `setup` where it may be set.
 
-#![tactic(auto)]
+#![tactic(auto, using(laws::proofs::Words::raised_lt6), unfolding(round_rules::specs::Zero::sent_by, round_rules::specs::Zero::setup_taken, round_rules::specs::Zero::restarted, round_rules::specs::Zero::cut_short, round_rules::specs::Zero::received_by, round_rules::specs::Zero::zero_served, round_rules::specs::Zero::endpoint_zero, round_rules::specs::Zero::put_back, round_rules::specs::Zero::accepted_by, round_rules::specs::Zero::accept_step))]
 
-ghost use Rattle.std.specs.Prelude.{◌≡◌, true, false, ◌+◌, ◌*◌, ◌≤◌, ◌<◌, length};
+ghost use Rattle.std.specs.Prelude.{◌≡◌, ◌+◌, ◌*◌, ◌≤◌, ◌<◌, length};
 ghost use Rattle.store_rules.specs.Stores.{log};
-ghost use Rattle.round_rules.specs.Zero.{round_of, sent_by, setup_taken, restarted, cut_short, received_by, zero_served, endpoint_zero, put_back, accept_step};
+ghost use Rattle.record.specs.declared.Flags.{Flags};
+ghost use Rattle.round_rules.specs.Zero.{round, sent_by, setup_taken, restarted, cut_short, received_by, zero_served, endpoint_zero, put_back, after_accept, accept_step};
 
 use board::Direction;
 use control_state::{ControlState, ControlStateEnum};
-use csr::Csr0lSet;
+use csr::{Csr0l, Csr0lSet};
 use record::Flags;
-use round_rules::{AfterAccept, Progress};
+use stores::Control;
 
+// (Each contract asks that the receive flags are below 64: a record may come with any, which reply 16 refuses, so the field is no six-bit type.)
 pub fn endpoint_zero(
     w: &mut [u16; 46],
     list: &mut [u16],
     n: usize,
-    c: ControlState,
-    f: Flags,
-) -> Progress
-    requires { (n * 3 + 6 ≤ length list.old) × (f.ep_rx < 64) }
-    ensures { (round_of result w.new list.new ≡ endpoint_zero (log w.old list.old n) c f) × (result.n ≤ n + 2) × (result.irq.ep_rx < 64) }
+    c: &mut ControlState,
+    f: &mut Flags,
+) -> (usize, bool)
+    requires { (n * 3 + 6 ≤ length list.old) × (f.old.ep_rx < 64) }
+    ensures { (round (log w.new list.new result.0) c.new f.new result.1 ≡ endpoint_zero (log w.old list.old n) c.old f.old) × (result.0 ≤ n + 2) × (f.new.ep_rx < 64) }
 {
     if f.ep0 {
-        let a = stores::write_index(w, list, n, 0);
-        return serve_zero(w, list, a, c, f);
+        let m = stores::write_index(w, list, n, 0);
+        return serve_zero(w, list, m, c, f);
     }
-    Progress {
-        n: n,
-        control_state: c,
-        irq: f,
-        setup: false,
-    }
+    (n, false)
 }
 
-fn serve_zero(w: &mut [u16; 46], list: &mut [u16], n: usize, c: ControlState, f: Flags) -> Progress
-    requires { (n * 3 + 3 ≤ length list.old) × (f.ep_rx < 64) }
-    ensures { (round_of result w.new list.new ≡ zero_served (log w.old list.old n) c f) × (result.n ≤ n + 1) × (result.irq.ep_rx < 64) }
+fn serve_zero(
+    w: &mut [u16; 46],
+    list: &mut [u16],
+    n: usize,
+    c: &mut ControlState,
+    f: &mut Flags,
+) -> (usize, bool)
+    requires { (n * 3 + 3 ≤ length list.old) × (f.old.ep_rx < 64) }
+    ensures { (round (log w.new list.new result.0) c.new f.new result.1 ≡ zero_served (log w.old list.old n) c.old f.old) × (result.0 ≤ n + 1) × (f.new.ep_rx < 64) }
 {
-    let v = regs::read_csr0l(w);
-    let mut g = f;
-    g.ep0 = false;
-    let s = c.get_state();
-    if v.rx_pkt_rdy {
-        return receive(w, list, n, s, c, g);
-    }
-    if v.tx_pkt_rdy {
-        return Progress {
-            n: n,
-            control_state: c,
-            irq: g,
-            setup: false,
-        };
-    }
-    let h = sent(s, g);
-    Progress {
-        n: n,
-        control_state: c,
-        irq: h,
-        setup: false,
+    let v = Csr0l::read(w);
+    f.ep0 = false;
+    match (v.rx_pkt_rdy, v.tx_pkt_rdy) {
+        (true, _) => receive(w, list, n, c, f),
+        (false, false) => {
+            sent(c.get_state(), f);
+            (n, false)
+        }
+        (false, true) => (n, false),
     }
 }
 
@@ -67,140 +59,86 @@ fn receive(
     w: &mut [u16; 46],
     list: &mut [u16],
     n: usize,
-    s: ControlStateEnum,
-    c: ControlState,
-    f: Flags,
-) -> Progress
-    requires { (n * 3 + 3 ≤ length list.old) × (f.ep_rx < 64) }
-    ensures { (round_of result w.new list.new ≡ received_by s (log w.old list.old n) c f) × (result.n ≤ n + 1) × (result.irq.ep_rx < 64) }
+    c: &mut ControlState,
+    f: &mut Flags,
+) -> (usize, bool)
+    requires { (n * 3 + 3 ≤ length list.old) × (f.old.ep_rx < 64) }
+    ensures { (round (log w.new list.new result.0) c.new f.new result.1 ≡ received_by c.old.state (log w.old list.old n) c.old f.old) × (result.0 ≤ n + 1) × (f.new.ep_rx < 64) }
 {
-    match s {
-        ControlStateEnum::Idle => take_setup(w, list, n, c, f),
+    match c.get_state() {
+        ControlStateEnum::Idle => take_setup(w, list, n, c),
         ControlStateEnum::DataOut => {
-            let mut g = f;
-            g.ep_rx = laws::raise(f.ep_rx, 0);
-            Progress {
-                n: n,
-                control_state: c,
-                irq: g,
-                setup: false,
-            }
+            f.ep_rx = laws::raise(f.ep_rx, 0);
+            (n, false)
         }
-        ControlStateEnum::DataIn => cut_short(w, list, n, c, f),
-        _ => Progress {
-            n: n,
-            control_state: c,
-            irq: f,
-            setup: false,
-        },
+        ControlStateEnum::DataIn => cut_short(w, list, n, c),
+        _ => (n, false),
     }
 }
 
-fn take_setup(w: &mut [u16; 46], list: &mut [u16], n: usize, c: ControlState, f: Flags) -> Progress
-    requires { (n * 3 + 3 ≤ length list.old) × (f.ep_rx < 64) }
-    ensures { (round_of result w.new list.new ≡ setup_taken (log w.old list.old n) c f) × (result.n ≤ n + 1) × (result.irq.ep_rx < 64) }
+fn take_setup(w: &mut [u16; 46], list: &mut [u16], n: usize, c: &mut ControlState) -> (usize, bool)
+    requires { n * 3 + 3 ≤ length list.old }
+    ensures { ((f : Flags) → round (log w.new list.new result.0) c.new f result.1 ≡ setup_taken (log w.old list.old n) c.old f) × (result.0 ≤ n + 1) }
 {
     if regs::waiting_len(w, 0, Direction::Out) == 8 {
-        let a = stores::modify_csr0l(w, list, n, Csr0lSet::ServicedSetupEnd);
-        return Progress {
-            n: a,
-            control_state: c.set_state(ControlStateEnum::Setup),
-            irq: f,
-            setup: true,
-        };
+        let m = stores::modify::<Csr0l>(w, list, n, Csr0lSet::ServicedSetupEnd);
+        *c = c.set_state(ControlStateEnum::Setup);
+        return (m, true);
     }
-    Progress {
-        n: n,
-        control_state: c,
-        irq: f,
-        setup: false,
-    }
+    (n, false)
 }
 
-fn cut_short(w: &mut [u16; 46], list: &mut [u16], n: usize, c: ControlState, f: Flags) -> Progress
-    requires { (n * 3 + 3 ≤ length list.old) × (f.ep_rx < 64) }
-    ensures { (round_of result w.new list.new ≡ cut_short (log w.old list.old n) c f) × (result.n ≤ n + 1) × (result.irq.ep_rx < 64) }
+fn cut_short(w: &mut [u16; 46], list: &mut [u16], n: usize, c: &mut ControlState) -> (usize, bool)
+    requires { n * 3 + 3 ≤ length list.old }
+    ensures { ((f : Flags) → round (log w.new list.new result.0) c.new f result.1 ≡ cut_short (log w.old list.old n) c.old f) × (result.0 ≤ n + 1) }
 {
-    let v = regs::read_csr0l(w);
+    let v = Csr0l::read(w);
     if v.setup_end {
-        return restart(w, list, n, c, f);
+        return restart(w, list, n, c);
     }
-    Progress {
-        n: n,
-        control_state: c,
-        irq: f,
-        setup: false,
-    }
+    (n, false)
 }
 
-fn restart(w: &mut [u16; 46], list: &mut [u16], n: usize, c: ControlState, f: Flags) -> Progress
-    requires { (n * 3 + 3 ≤ length list.old) × (f.ep_rx < 64) }
-    ensures { (round_of result w.new list.new ≡ restarted (log w.old list.old n) c f) × (result.n ≤ n + 1) × (result.irq.ep_rx < 64) }
+fn restart(w: &mut [u16; 46], list: &mut [u16], n: usize, c: &mut ControlState) -> (usize, bool)
+    requires { n * 3 + 3 ≤ length list.old }
+    ensures { ((f : Flags) → round (log w.new list.new result.0) c.new f result.1 ≡ restarted (log w.old list.old n) c.old f) × (result.0 ≤ n + 1) }
 {
     let count = regs::waiting_len(w, 0, Direction::Out);
-    let a = stores::modify_csr0l(w, list, n, Csr0lSet::ServicedSetupEnd);
-    let i = c.set_state(ControlStateEnum::Idle).reset_tx_len();
+    let m = stores::modify::<Csr0l>(w, list, n, Csr0lSet::ServicedSetupEnd);
+    *c = c.set_state(ControlStateEnum::Idle).reset_tx_len();
     if count == 8 {
-        return Progress {
-            n: a,
-            control_state: i.set_state(ControlStateEnum::Setup),
-            irq: f,
-            setup: true,
-        };
+        *c = c.set_state(ControlStateEnum::Setup);
+        return (m, true);
     }
-    Progress {
-        n: a,
-        control_state: i,
-        irq: f,
-        setup: false,
-    }
+    (m, false)
 }
 
 // Nothing waits at endpoint 0 and nothing is on its way: in DataIn a packet has gone.
-fn sent(s: ControlStateEnum, f: Flags) -> Flags
-    requires { f.ep_rx < 64 }
-    ensures { (result ≡ sent_by s f) × (result.ep_rx < 64) }
+fn sent(s: ControlStateEnum, f: &mut Flags)
+    ensures { (f.new ≡ sent_by s f.old) × (f.new.ep_rx ≡ f.old.ep_rx) }
 {
-    match s {
-        ControlStateEnum::DataIn => {
-            let mut o = f;
-            o.ep_tx = laws::raise(f.ep_tx, 0);
-            o
-        }
-        _ => f,
+    if let ControlStateEnum::DataIn = s {
+        f.ep_tx = laws::raise(f.ep_tx, 0);
     }
 }
 
-pub fn accept(c: ControlState, f: Flags) -> AfterAccept
-    requires { f.ep_rx < 64 }
-    ensures { (result ≡ accept_step c f) × (result.irq.ep_rx < 64) }
+pub fn accept(c: &mut ControlState, f: &mut Flags)
+    requires { f.old.ep_rx < 64 }
+    ensures { (after_accept c.new f.new ≡ accept_step c.old f.old) × (f.new.ep_rx < 64) }
 {
-    let s = c.get_state();
-    match s {
-        ControlStateEnum::Accepted => {
-            let mut g = put_back(f);
-            g.ep_tx = laws::raise(g.ep_tx, 0);
-            AfterAccept {
-                control_state: c.set_state(ControlStateEnum::Idle),
-                irq: g,
-            }
-        }
-        _ => AfterAccept {
-            control_state: c,
-            irq: f,
-        },
+    if let ControlStateEnum::Accepted = c.get_state() {
+        put_back(f);
+        f.ep_tx = laws::raise(f.ep_tx, 0);
+        *c = c.set_state(ControlStateEnum::Idle);
     }
 }
 
-fn put_back(f: Flags) -> Flags
-    requires { f.ep_rx < 64 }
-    ensures { (result ≡ put_back f) × (result.ep_rx < 64) }
+fn put_back(f: &mut Flags)
+    requires { f.old.ep_rx < 64 }
+    ensures { (f.new ≡ put_back f.old) × (f.new.ep_rx < 64) }
 {
     if laws::has_bit(f.ep_rx, 0) {
-        let mut o = f;
-        o.ep0 = true;
-        o.ep_rx = poll_walk::without(f.ep_rx, 0);
-        return o;
+        f.ep0 = true;
+        f.ep_rx = poll_walk::without(f.ep_rx, 0);
     }
-    f
 }

@@ -1,4 +1,5 @@
 -- From a call's tests, made in their order, to the rows of document 01's table. Assumes nothing.
+use Rattle.std.specs.Prelude.{Err, Ok}
 use Prim.Native.Nat.{ℕ, ◌≤◌, ◌<◌}
 use mathlib.Core.Path.{◌≡◌, refl, sym, subst, ◌∙◌}
 use mathlib.Core.Logic.{◌↔◌, ◌⊎◌, inl, inr}
@@ -10,8 +11,7 @@ use lib.Dec.{ltb, leb, eqb}
 use Rattle.laws.proofs.Tests.{clash}
 use Rattle.record.specs.declared.Record.{Record}
 use Rattle.record.specs.declared.Refusal.{Refusal}
-use Rattle.record.specs.declared.Admission.TheVariants.{Clear, Refused}
-use Rattle.record.specs.Record.{admission_number, record_sound, SoundRecord, admission_by}
+use Rattle.record.specs.Record.{reply_number, record_sound, SoundRecord, admission_by, Reply}
 use Rattle.record.specs.Rows.{Row, row, Given, Replies}
 use Rattle.record.proofs.Passing.{record_is_sound, sound_record_passes}
 
@@ -81,7 +81,7 @@ pub tells_is : (a b : ℕ) → eqb a b ≡ true ↔ a ≡ b
 tells_is a b = (eqb-true a b, eq-eqb a b)
 
 -- "Order: 15, 16, 8"
-pub numbered : (short passes beyond : Bool) → admission_number (admission_by short passes beyond) ≡ cond short 15 (cond (not passes) 16 (cond beyond 8 0))
+pub numbered : (short passes beyond : Bool) → reply_number (admission_by short passes beyond) ≡ cond short 15 (cond (not passes) 16 (cond beyond 8 0))
 numbered true p b = refl
 numbered false false b = refl
 numbered false true true = refl
@@ -90,26 +90,26 @@ numbered false true false = refl
 -- the first tests alone: where memory is lent and an endpoint is named; where memory is lent; where an endpoint is named; where neither
 module _ (k : Record) where
   pub first_all : (short beyond : Bool) {A B : Type 0} → (short ≡ true ↔ A) → (beyond ≡ true ↔ B)
-      → Given (admission_number (admission_by short (record_sound k) beyond)) (row 15 A ∷ row 16 (SoundRecord k → ⊥) ∷ row 8 B ∷ [])
+      → Given (reply_number (admission_by short (record_sound k) beyond)) (row 15 A ∷ row 16 (SoundRecord k → ⊥) ∷ row 8 B ∷ [])
   first_all short beyond s b = rw (numbered short (record_sound k) beyond) (tested 15 _ _ short s (tested 16 _ _ _ (tells_bad k) (tested 8 _ _ beyond b none_left)))
 
   pub first_lent : (short : Bool) {A : Type 0} → (short ≡ true ↔ A)
-      → Given (admission_number (admission_by short (record_sound k) false)) (row 15 A ∷ row 16 (SoundRecord k → ⊥) ∷ [])
+      → Given (reply_number (admission_by short (record_sound k) false)) (row 15 A ∷ row 16 (SoundRecord k → ⊥) ∷ [])
   first_lent short s = rw (numbered short (record_sound k) false) (tested 15 _ _ short s (tested 16 _ _ _ (tells_bad k) none_left))
 
   pub first_named : (beyond : Bool) {B : Type 0} → (beyond ≡ true ↔ B)
-      → Given (admission_number (admission_by false (record_sound k) beyond)) (row 16 (SoundRecord k → ⊥) ∷ row 8 B ∷ [])
+      → Given (reply_number (admission_by false (record_sound k) beyond)) (row 16 (SoundRecord k → ⊥) ∷ row 8 B ∷ [])
   first_named beyond b = rw (numbered false (record_sound k) beyond) (tested 16 _ _ _ (tells_bad k) (tested 8 _ _ beyond b none_left))
 
-  pub first_plain : Given (admission_number (admission_by false (record_sound k) false)) (row 16 (SoundRecord k → ⊥) ∷ [])
+  pub first_plain : Given (reply_number (admission_by false (record_sound k) false)) (row 16 (SoundRecord k → ⊥) ∷ [])
   first_plain = rw (numbered false (record_sound k) false) (tested 16 _ _ _ (tells_bad k) none_left)
 
 -- what is refused is not let through
-pub unlike {ℓ} : {A : Type ℓ} {x : Refusal} → Refused x ≡ Clear → A
+pub unlike {ℓ} : {A : Type ℓ} {x : Refusal} → ◌≡◌ {A = Reply Unit} (Err x) (Ok tt) → A
 unlike e = let z : ◌≡◌ {A = ℕ} 0 1 = cc in absurd (omega arith)
 
 -- where the first tests refuse nothing, none of them holds
-pub none_refused : (s p b : Bool) → admission_by s p b ≡ Clear → (s ≡ false) × (p ≡ true) × (b ≡ false)
+pub none_refused : (s p b : Bool) → admission_by s p b ≡ (Ok tt) → (s ≡ false) × (p ≡ true) × (b ≡ false)
 none_refused true p b e = unlike e
 none_refused false false b e = unlike e
 none_refused false true true e = unlike e

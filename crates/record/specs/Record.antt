@@ -1,6 +1,6 @@
 -- The whole record: fresh, where an endpoint's area lies, and reply 16 in one definition.
 -- Assumes nothing.
-use Rattle.std.specs.Prelude.{ℕ, ◌^◌, ◌<◌, Bool, true, false, List, ltb, length, replicate}
+use Rattle.std.specs.Prelude.{ℕ, ◌^◌, ◌<◌, Bool, true, false, List, ltb, length, replicate, Result, Ok, Err}
 use Rattle.laws.specs.Tests.{◌also◌}
 use Rattle.board.specs.declared.Board.{Board}
 use Rattle.board.specs.declared.Direction.{Direction}
@@ -17,10 +17,6 @@ use Rattle.control_state.specs.declared.ControlState.{ControlState}
 use Rattle.record.specs.declared.Flags.{Flags}
 use Rattle.record.specs.declared.Refusal.{Refusal}
 use Rattle.record.specs.declared.Refusal.TheVariants.{WouldBlock, Unsupported, NoSuchEndpoint, TooLong, NotWritable, NotReadable, NotSetup, BadAddress, TooLittleLent, BadRecord, OutOfTurn, BufferOverflow}
-use Rattle.record.specs.declared.Reply.{Reply}
-use Rattle.record.specs.declared.Reply.TheVariants as reply
-use Rattle.record.specs.declared.Admission.{Admission}
-use Rattle.record.specs.declared.Admission.TheVariants.{Clear, Refused}
 use Rattle.record.specs.declared.Record.{Record}
 
 -- "A fresh record: registers 0, nothing waiting, endpoints unused, Bulk, sizes 0, Idle, nothing remaining, flags down."
@@ -76,6 +72,10 @@ pub record SoundRecord (k : Record) : Type 0 where
   pub tx : k.irq.ep_tx < 2 ^ length (rows k.regs.board)
   pub rx : k.irq.ep_rx < 2 ^ length (rows k.regs.board)
 
+-- the answer of a call that gives a value of A: that value, or why it is refused
+abbrev pub Reply : Type 0 → Type 0
+Reply A = Result A Refusal
+
 -- document 01's reply numbers, and document 02's 18
 abbrev pub refusal_number : Refusal → ℕ
 refusal_number WouldBlock = 6
@@ -92,16 +92,16 @@ refusal_number OutOfTurn = 17
 refusal_number BufferOverflow = 18
 
 -- document 01's number of an answer without a value
-abbrev pub reply_number : Reply → ℕ
-reply_number reply.Done = 0
-reply_number (reply.Refused x) = refusal_number x
+abbrev pub reply_number : Reply Unit → ℕ
+reply_number (Ok tt) = 0
+reply_number (Err x) = refusal_number x
 
 -- "Order: 15, 16, 8": lent too little, the record does not pass, endpoint beyond the last
-abbrev pub admission_by : Bool → Bool → Bool → Admission
-admission_by true passes beyond = Refused TooLittleLent
-admission_by false false beyond = Refused BadRecord
-admission_by false true true = Refused NoSuchEndpoint
-admission_by false true false = Clear
+abbrev pub admission_by : Bool → Bool → Bool → Reply Unit
+admission_by true passes beyond = Err TooLittleLent
+admission_by false false beyond = Err BadRecord
+admission_by false true true = Err NoSuchEndpoint
+admission_by false true false = Ok tt
 
 -- the record with one part changed
 abbrev pub with_regs : Record → File → Record
@@ -134,8 +134,3 @@ with_tx f w = record { reset = f.reset; suspend = f.suspend; resume = f.resume; 
 
 abbrev pub with_rx : Flags → ℕ → Flags
 with_rx f w = record { reset = f.reset; suspend = f.suspend; resume = f.resume; ep0 = f.ep0; ep_tx = f.ep_tx; ep_rx = w }
-
--- document 01's number of what the tests came to
-abbrev pub admission_number : Admission → ℕ
-admission_number Clear = 0
-admission_number (Refused x) = refusal_number x

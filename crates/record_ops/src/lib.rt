@@ -2,39 +2,21 @@
 
 #![tactic(auto)]
 
-ghost use Rattle.std.specs.Prelude.{◌≡◌, ◌+◌, ◌≤◌, ◌<◌};
-ghost use Rattle.record.specs.Record.{fresh_record, area_in, need_in, flags_sound, passes, refusal_number, reply_number, admission_by, endpoints_in};
+ghost use Rattle.std.specs.Prelude.{◌≡◌, ◌+◌, ◌≤◌, ◌<◌, Err};
+ghost use Rattle.record.specs.Record.{fresh_record, area_in, need_in, flags_sound, passes, reply_number, admission_by, endpoints_in};
 
 use board::{Board, Direction, Span};
 use control_state::ControlState;
-use record::{Admission, Flags, Record, Refusal, Reply};
-
-pub fn refusal_number(x: Refusal) -> u8
-    ensures { result ≡ refusal_number x }
-{
-    match x {
-        Refusal::WouldBlock => 6,
-        Refusal::Unsupported => 7,
-        Refusal::NoSuchEndpoint => 8,
-        Refusal::TooLong => 9,
-        Refusal::NotWritable => 11,
-        Refusal::NotReadable => 12,
-        Refusal::NotSetup => 13,
-        Refusal::BadAddress => 14,
-        Refusal::TooLittleLent => 15,
-        Refusal::BadRecord => 16,
-        Refusal::OutOfTurn => 17,
-        Refusal::BufferOverflow => 18,
-    }
-}
+use endpoints::EndpointData;
+use record::{Flags, Ran, Record, Refusal, Reply};
 
 // Document 01's number of an answer.
-pub fn reply_number(a: Reply) -> u8
+pub fn reply_number(a: Reply<()>) -> u8
     ensures { result ≡ reply_number a }
 {
     match a {
-        Reply::Done => 0,
-        Reply::Refused(x) => refusal_number(x),
+        Ok(()) => 0,
+        Err(x) => u8::from(x),
     }
 }
 
@@ -42,25 +24,16 @@ pub fn reply_number(a: Reply) -> u8
 pub fn fresh(b: Board) -> Record
     ensures { result ≡ fresh_record b }
 {
-    let r = regs::fresh(b);
-    let e = endpoint_ops::fresh_endpoint();
-    let c = ControlState::new();
     Record {
-        regs: r,
-        endpoints: [e; 6],
-        control_state: c,
-        irq: Flags {
-            reset: false,
-            suspend: false,
-            resume: false,
-            ep0: false,
-            ep_tx: 0,
-            ep_rx: 0,
-        },
+        regs: regs::fresh(b),
+        endpoints: [EndpointData::default(); 6],
+        control_state: ControlState::new(),
+        irq: Flags::default(),
     }
 }
 
 // Where an endpoint's area lies is asked here and nowhere else.
+// (`area`, `need` and `endpoints` are board's, with clauses over the record's own definitions, which board does not know.)
 pub fn area(b: Board, e: u8, d: Direction) -> Span
     ensures { (result ≡ area_in b e d) × (result.start + result.size ≤ need_in b) × (result.size < 65536) }
 {
@@ -94,6 +67,7 @@ fn flags_sound(b: Board, f: Flags) -> bool
 }
 
 // Reply 16's test: every call and event that takes a record refuses one that does not pass.
+// (By parts, as all below a public call: a record that is handed on is copied. docs/DECISIONS.md, 'Parts, not records'.)
 pub fn sound(b: Board, w: &[u16; 46], f: Flags) -> bool
     ensures { result ≡ passes b w.now f }
 {
@@ -102,17 +76,28 @@ pub fn sound(b: Board, w: &[u16; 46], f: Flags) -> bool
 }
 
 // The three tests that come first in every call, in their order: 15, 16, 8.
-pub fn admit(short: bool, b: Board, w: &[u16; 46], f: Flags, beyond: bool) -> Admission
+// (`short` and `beyond` come as bools: `admission_by`, which each call's definition names, is over the three tests so.)
+pub fn admit(short: bool, b: Board, w: &[u16; 46], f: Flags, beyond: bool) -> Reply<()>
     ensures { result ≡ admission_by short (passes b w.now f) beyond }
 {
     if short {
-        return Admission::Refused(Refusal::TooLittleLent);
+        return Err(Refusal::TooLittleLent);
     }
     if !sound(b, w, f) {
-        return Admission::Refused(Refusal::BadRecord);
+        return Err(Refusal::BadRecord);
     }
     if beyond {
-        return Admission::Refused(Refusal::NoSuchEndpoint);
+        return Err(Refusal::NoSuchEndpoint);
     }
-    Admission::Clear
+    Ok(())
+}
+
+// What a refused call leaves: nothing has changed, and no store stands in the list.
+pub fn refused<T>(x: Refusal) -> Ran<Reply<T>>
+    ensures { result ≡ record { answer = Err x; n = 0 } }
+{
+    Ran {
+        answer: Err(x),
+        n: 0,
+    }
 }

@@ -5,6 +5,7 @@
 
 use board::Board;
 
+// (One list of numbers and no array of sides: the definitions are over it. docs/DECISIONS.md, 'A register file'.)
 #[derive(Clone, Copy)]
 pub struct Regs {
     pub words: [u16; 46],

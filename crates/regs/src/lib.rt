@@ -7,11 +7,11 @@
 
 ghost use Rattle.std.specs.Prelude.{◌≡◌, ◌<◌};
 ghost use Rattle.register_file.specs.Registers.{fresh_regs, side_word, side_in, with_side_in, side_at, with_side};
-ghost use Rattle.register_file.specs.Control.{csr0l_read, txcsrl_read, rxcsrl_read, csr0l_stored, csr0h_flushed};
+ghost use Rattle.register_file.specs.Control.{csr0l_stored, csr0h_flushed};
 ghost use Rattle.register_file.specs.Sound.{words_below, sides_below, regs_sound};
 
 use board::{Board, Direction};
-use csr::{Csr0l, Rxcsrl, Side, Txcsrl};
+use csr::{Csr0l, Side};
 use register_file::Regs;
 
 // Places in the array: the registers that are there once; of the interrupt registers what is raised and not read yet (of the bus suspend is
@@ -44,6 +44,7 @@ const LEN: usize = 22;
 const MAXP: usize = 34;
 
 // Registers 0, nothing waiting.
+#[tactic(auto, unfolding(register_file::specs::Registers::fresh_regs, register_file::specs::Registers::fresh_file))]
 pub fn fresh(b: Board) -> Regs
     ensures { result ≡ fresh_regs b }
 {
@@ -53,7 +54,8 @@ pub fn fresh(b: Board) -> Regs
     }
 }
 
-// A side's control bits as one number.
+// A side's control bits as one number. (No `From` of a Side: it would stand in `csr`, and what weighs the bits stands above it, in csr_ops.)
+#[tactic(auto, unfolding(register_file::specs::Registers::side_word))]
 fn side_word(s: Side) -> u16
     ensures { result ≡ side_word s }
 {
@@ -65,6 +67,7 @@ fn side_word(s: Side) -> u16
 }
 
 // The side in a place, and another state of it.
+#[tactic(auto, unfolding(register_file::specs::Registers::side_in, register_file::specs::Registers::side_of))]
 fn side_in(w: &[u16; 46], i: usize) -> Side
     requires { i < 12 }
     ensures { result ≡ side_in w.now i }
@@ -81,6 +84,7 @@ fn side_in(w: &[u16; 46], i: usize) -> Side
     }
 }
 
+#[tactic(auto, unfolding(register_file::specs::Registers::with_side_in))]
 fn put_side_in(w: &mut [u16; 46], i: usize, s: Side)
     requires { i < 12 }
     ensures { w.new ≡ with_side_in w.old i s }
@@ -91,13 +95,14 @@ fn put_side_in(w: &mut [u16; 46], i: usize, s: Side)
 }
 
 // The side of an endpoint by its number. Past the last endpoint nothing is there.
+// (Endpoint and direction are the source's two arguments: a struct of both would be taken apart in each function that it reaches.)
 pub fn side_at(w: &[u16; 46], e: u16, d: Direction) -> Side
     ensures { result ≡ side_at w.now e d }
 {
     if e < 6 {
         return side_in(w, board::place_of(e as u8, d));
     }
-    csr_ops::no_side()
+    Side::default()
 }
 
 // Whether a packet waits at a side.
@@ -117,6 +122,7 @@ pub fn waiting_len(w: &[u16; 46], e: u8, d: Direction) -> u16
 }
 
 // Another state of a side. Past the last endpoint nothing changes.
+// (Who changes a side reads it, sets a field and puts it back: of a closure for that one line each contract would have to say what it gave.)
 pub fn put_side(w: &mut [u16; 46], e: u16, d: Direction, s: Side)
     ensures { w.new ≡ with_side w.old e d s }
 {
@@ -124,36 +130,6 @@ pub fn put_side(w: &mut [u16; 46], e: u16, d: Direction, s: Side)
         put_side_in(w, board::place_of(e as u8, d), s);
         return;
     }
-}
-
-pub fn read_csr0l(w: &[u16; 46]) -> Csr0l
-    ensures { result ≡ csr0l_read w.now }
-{
-    let tx = side_at(w, 0, Direction::In);
-    let rx = side_at(w, 0, Direction::Out);
-    let ended = w[SETUPEND] == 1;
-    Csr0l {
-        rx_pkt_rdy: rx.ready,
-        tx_pkt_rdy: tx.ready,
-        sent_stall: tx.stalled,
-        data_end: false,
-        setup_end: ended,
-        send_stall: tx.stall,
-        serviced_rx_pkt_rdy: false,
-        serviced_setup_end: false,
-    }
-}
-
-pub fn read_txcsrl(w: &[u16; 46]) -> Txcsrl
-    ensures { result ≡ txcsrl_read w.now }
-{
-    csr_ops::txcsrl_of(side_at(w, w[INDEX], Direction::In))
-}
-
-pub fn read_rxcsrl(w: &[u16; 46]) -> Rxcsrl
-    ensures { result ≡ rxcsrl_read w.now }
-{
-    csr_ops::rxcsrl_of(side_at(w, w[INDEX], Direction::Out))
 }
 
 // What a store to CSR0L changes.
@@ -165,7 +141,7 @@ pub fn store_csr0l(w: &mut [u16; 46], v: Csr0l)
     let ended = (w[SETUPEND] == 1) & !v.serviced_setup_end;
     put_side(w, 0, Direction::In, tx);
     put_side(w, 0, Direction::Out, rx);
-    w[SETUPEND] = csr_ops::weight(ended, 1);
+    w[SETUPEND] = u16::from(ended);
 }
 
 // And the flush of CSR0H.
@@ -183,10 +159,8 @@ fn words_sound(w: &[u16; 46]) -> bool
     ensures { result ≡ words_below w.now 12 }
 {
     let mut ok = true;
-    let mut i = 0usize;
-    while i < 12 {
-        ok = ok & (w[CSR + i] < 32);
-        i += 1;
+    for c in &w[CSR..LEN] {
+        ok &= *c < 32;
     }
     ok
 }
@@ -195,10 +169,8 @@ fn sides_sound(w: &[u16; 46], sizes: &[u16; 12]) -> bool
     ensures { result ≡ sides_below sizes.now w.now 12 }
 {
     let mut ok = true;
-    let mut i = 0usize;
-    while i < 12 {
-        ok = ok & csr_ops::side_sound(sizes[i], side_in(w, i));
-        i += 1;
+    for (i, size) in sizes.iter().enumerate() {
+        ok &= csr_ops::side_sound(*size, side_in(w, i));
     }
     ok
 }

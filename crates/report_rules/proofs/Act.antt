@@ -1,5 +1,11 @@
 -- From a call's contract and the line of its answer to what the entry leaves: one law for each kind of call.
 -- Assumes nothing.
+use Rattle.std.specs.Prelude.{Bool, Err, Ok, Result}
+use Rattle.board.specs.declared.Span.{Span}
+use Rattle.round_rules.specs.declared.PollResult.{PollResult}
+use Rattle.record.specs.declared.Called.{Called}
+use Rattle.record.specs.declared.Answered.{Answered}
+use Rattle.call_rules.specs.declared.AllocRefusal.{AllocRefusal}
 use Prim.Native.Nat.{ℕ, zero, suc, ◌+◌, ◌-◌, ◌≤◌}
 use native.Mathlib.Omega.{arith}
 use native.Mathlib.Nat.{add-sub_cancel_left}
@@ -8,34 +14,23 @@ use mathlib.Core.List.{List, [], ◌∷◌}
 use lib.ListN.{length, take, drop, replicate, length-take, length-drop, length-replicate}
 use Rattle.board.specs.declared.Direction.TheVariants.{Out}
 use Rattle.record.specs.declared.Record.{Record}
-use Rattle.record.specs.Record.{reply_number}
+use Rattle.record.specs.Record.{reply_number, Reply}
 use Rattle.register_file.specs.Registers.{side_at}
-use Rattle.call_rules.specs.declared.AllocCalled.{AllocCalled}
-use Rattle.call_rules.specs.declared.Called.{Called}
-use Rattle.call_rules.specs.declared.StalledCalled.{StalledCalled}
 use Rattle.call_rules.specs.Calls as impl
 use Rattle.call_rules.specs.Alloc as impl-alloc
 use Rattle.call_rules.specs.Stall as impl-stall
-use Rattle.transfer_rules.specs.declared.WriteAnswer.{WriteAnswer}
-use Rattle.transfer_rules.specs.declared.WriteAnswer.TheVariants as wrote
-use Rattle.transfer_rules.specs.declared.WriteCalled.{WriteCalled}
 use Rattle.transfer_rules.specs.Write.{write_call}
 use Rattle.transfer_rules.specs.WriteZero.{write_number, write_values}
 use Rattle.transfer_rules.proofs.WriteAnswers as write-answers
-use Rattle.transfer_rules.specs.declared.ReadAnswer.{ReadAnswer}
-use Rattle.transfer_rules.specs.declared.ReadAnswer.TheVariants as got
-use Rattle.transfer_rules.specs.declared.ReadCalled.{ReadCalled}
 use Rattle.transfer_rules.specs.Read.{ReadOutcome, read_call}
 use Rattle.transfer_rules.specs.ReadZero.{read_number, read_values}
 use Rattle.transfer_rules.proofs.Transfers.{copies}
-use Rattle.round_rules.specs.declared.PollCalled.{PollCalled}
 use Rattle.round_rules.specs.Poll.{PollOutcome, poll_number, poll_values}
-use Rattle.record.specs.declared.Answered.{Answered}
-use Rattle.host_rules.specs.declared.CollectCalled.{CollectCalled}
 use Rattle.host_rules.specs.Host as host
 use Rattle.calls.specs.Calls as calls
 use Rattle.event_rules.specs.declared.BusEvent.{BusEvent}
 use Rattle.event_rules.specs.declared.BusEvent.TheVariants as bus
+use Rattle.trace_rules.specs.declared.Packet.{Packet}
 use Rattle.trace_rules.specs.declared.Entry.{Entry}
 use Rattle.trace_rules.specs.declared.Entry.TheVariants.{Allocate, Init, Reset, Address, Write, Read, Stall, IsStalled, Poll, Interrupt, Enable, Arrival, Collect, Bus, SetupEnd, Underrun, Overrun}
 use Rattle.trace_rules.specs.Entries.{code_of, Within}
@@ -49,14 +44,14 @@ code_is s (Allocate d w t n) f l = refl
 code_is s Init f l = refl
 code_is s Reset f l = refl
 code_is s (Address a) f l = refl
-code_is s (Write e start n) f l = refl
+code_is s (Write p) f l = refl
 code_is s (Read e n) f l = refl
 code_is s (Stall e d on) f l = refl
 code_is s (IsStalled e d) f l = refl
 code_is s Poll f l = refl
 code_is s Interrupt f l = refl
 code_is s Enable f l = refl
-code_is s (Arrival e start n) f l = refl
+code_is s (Arrival p) f l = refl
 code_is s (Collect e) f l = refl
 code_is s (Bus bus.Reset) f l = refl
 code_is s (Bus bus.Suspend) f l = refl
@@ -85,89 +80,89 @@ module _ {b a : List ℕ} {r : Acted} {code : ℕ} where
       (record { kept = λ i. state (g.kept i) (m c).0 (m c).1; counted = g.counted; shown = g.shown })
 
   module _ (f : List ℕ) {l : List ℕ} where
-    pub by_called : {x : Called} {o : impl.CallOutcome} → record { call = x; list = l } ≡ o → Gives b a r code x.«record» x.stores (reply_number x.answer) []
+    pub by_called : {x : Called (Reply Unit)} {o : impl.CallOutcome} → record { call = x; list = l } ≡ o → Gives b a r code x.«record» x.stores (reply_number x.answer) []
         → Acts b a r f l code (left (f, o.list) (calls.called o))
     by_called e g = by (λ o. (f, o.list)) (ap calls.called e) g
 
-    pub by_told : {x : StalledCalled} {o : impl-stall.StalledOutcome} → record { call = x; list = l } ≡ o
+    pub by_told : {x : Called (Reply Bool)} {o : impl-stall.StalledOutcome} → record { call = x; list = l } ≡ o
         → Gives b a r code x.«record» x.stores (impl-stall.stalled_number x.answer) (impl-stall.stalled_values x.answer) → Acts b a r f l code (left (f, o.list) (calls.told o))
     by_told e g = by (λ o. (f, o.list)) (ap calls.told e) g
 
-    pub by_polled : {x : PollCalled} {o : PollOutcome} → record { result = x; list = l } ≡ o
+    pub by_polled : {x : Called (Reply PollResult)} {o : PollOutcome} → record { result = x; list = l } ≡ o
         → Gives b a r code x.«record» x.stores (poll_number x.answer) (poll_values x.answer) → Acts b a r f l code (left (f, o.list) (calls.polled o))
     by_polled e g = by (λ o. (f, o.list)) (ap calls.polled e) g
 
-    pub by_fetched : {x : ReadCalled} {buf : List ℕ} {o : ReadOutcome} → record { result = x; list = l; buf = buf } ≡ o
+    pub by_fetched : {x : Called (Reply ℕ)} {buf : List ℕ} {o : ReadOutcome} → record { result = x; list = l; buf = buf } ≡ o
         → Gives b a r code x.«record» x.stores (read_number x.answer) (read_values x.answer buf) → Acts b a r f l code (left (f, o.list) (calls.fetched o))
     by_fetched e g = by (λ o. (f, o.list)) (ap calls.fetched e) g
 
   module _ (f l : List ℕ) where
-    pub by_allocated : {x o : AllocCalled} → x ≡ o
+    pub by_allocated : {x o : Answered (Result ℕ AllocRefusal)} → x ≡ o
         → Gives b a r code x.«record» 0 (impl-alloc.alloc_number x.answer) (impl-alloc.alloc_values x.answer) → Acts b a r f l code (left (f, l) (calls.allocated o))
     by_allocated e g = by (λ o. (f, l)) (ap calls.allocated e) g
 
-    pub by_answered : {x o : Answered} → x ≡ o → Gives b a r code x.«record» 0 (reply_number x.answer) [] → Acts b a r f l code (left (f, l) (calls.answered o))
+    pub by_answered : {x o : Answered (Reply Unit)} → x ≡ o → Gives b a r code x.«record» 0 (reply_number x.answer) [] → Acts b a r f l code (left (f, l) (calls.answered o))
     by_answered e g = by (λ o. (f, l)) (ap calls.answered e) g
 
-    pub by_bus : (k : Record) (x : Answered) (e : BusEvent) → calls.answered x ≡ calls.outcome k (bus_operation e)
+    pub by_bus : (k : Record) (x : Answered (Reply Unit)) (e : BusEvent) → calls.answered x ≡ calls.outcome k (bus_operation e)
         → Gives b a r code x.«record» 0 (reply_number x.answer) [] → Acts b a r f l code (did (state k f l) (bus_operation e))
     by_bus k x bus.Reset e g = by (λ o. (f, l)) e g
     by_bus k x bus.Suspend e g = by (λ o. (f, l)) e g
     by_bus k x bus.Resume e g = by (λ o. (f, l)) e g
 
-    pub by_collected : {x o : CollectCalled} → x ≡ o → Gives b a r code x.«record» 0 (host.collect_number x.answer) (host.collect_values x.answer f)
+    pub by_collected : {x o : Answered (Reply Span)} → x ≡ o → Gives b a r code x.«record» 0 (host.collect_number x.answer) (host.collect_values x.answer f)
         → Acts b a r f l code (left (f, l) (calls.collected f o))
     by_collected e g = by (λ o. (f, l)) (ap (calls.collected f) e) g
 
   -- a packet is handed on as a part of the trace
-  module _ (k : Record) (ep : ℕ) (s : List ℕ) (start n : ℕ) (f : List ℕ) {f' : List ℕ} where
-    pub by_written : (l : List ℕ) {l' : List ℕ} {x : WriteCalled} → record { result = x; fifo = f'; list = l' } ≡ write_call k ep (take (start + n - start) (drop start s)) f l
+  module _ (k : Record) (s : List ℕ) (p : Packet) (f : List ℕ) {f' : List ℕ} where
+    pub by_written : (l : List ℕ) {l' : List ℕ} {x : Called (Reply ℕ)} → record { result = x; fifo = f'; list = l' } ≡ write_call k p.endpoint (take (p.start + p.len - p.start) (drop p.start s)) f l
         → Gives b a r code x.«record» x.stores (write_number x.answer) (write_values x.answer)
-        → Acts b a r f' l' code (did (state k f l) (operation s (Write ep start n) f l))
+        → Acts b a r f' l' code (did (state k f l) (operation s (Write p) f l))
     by_written l e g =
-        by (λ o. (o.fifo, o.list)) (ap calls.written (e ∙ ap (λ (p : List ℕ). write_call k ep p f l) (handed_on s start n))) g
+        by (λ o. (o.fifo, o.list)) (ap calls.written (e ∙ ap (λ (b : List ℕ). write_call k p.endpoint b f l) (handed_on s p.start p.len))) g
 
-    pub by_arrived : (l : List ℕ) {x : Answered} → record { event = x; fifo = f' } ≡ host.arrival_call k ep (take (start + n - start) (drop start s)) f
-        → Gives b a r code x.«record» 0 (reply_number x.answer) [] → Acts b a r f' l code (did (state k f l) (operation s (Arrival ep start n) f l))
+    pub by_arrived : (l : List ℕ) {x : Answered (Reply Unit)} → record { event = x; fifo = f' } ≡ host.arrival_call k p.endpoint (take (p.start + p.len - p.start) (drop p.start s)) f
+        → Gives b a r code x.«record» 0 (reply_number x.answer) [] → Acts b a r f' l code (did (state k f l) (operation s (Arrival p) f l))
     by_arrived l e g =
-        by (λ o. (o.fifo, l)) (ap calls.arrived (e ∙ ap (λ (p : List ℕ). host.arrival_call k ep p f) (handed_on s start n))) g
+        by (λ o. (o.fifo, l)) (ap calls.arrived (e ∙ ap (λ (b : List ℕ). host.arrival_call k p.endpoint b f) (handed_on s p.start p.len))) g
 
 -- what `Within` says of the entries that it speaks of
-pub write_within : (s : List ℕ) {e : Entry} {ep start n : ℕ} → e ≡ Write ep start n → Within s e → start + n ≤ length s
+pub write_within : (s : List ℕ) {e : Entry} {p : Packet} → e ≡ Write p → Within s e → p.start + p.len ≤ length s
 write_within s e h = rw e at h
 
-pub arrival_within : (s : List ℕ) {e : Entry} {ep start n : ℕ} → e ≡ Arrival ep start n → Within s e → start + n ≤ length s
+pub arrival_within : (s : List ℕ) {e : Entry} {p : Packet} → e ≡ Arrival p → Within s e → p.start + p.len ≤ length s
 arrival_within s e h = rw e at h
 
 pub read_within : (s : List ℕ) {e : Entry} {ep n : ℕ} → e ≡ Read ep n → Within s e → n ≤ 512
 read_within s e h = rw e at h
 
 -- a written length is the packet's
-pub wrote_fits : (k : Record) (ep : ℕ) (s : List ℕ) (start n : ℕ) (f l : List ℕ) {x : WriteCalled} {f' l' : List ℕ}
-    → record { result = x; fifo = f'; list = l' } ≡ write_call k ep (take (start + n - start) (drop start s)) f l → length s ≤ 65536 → WriteFits x.answer
-wrote_fits k ep s start n f l {x} e h = go x.answer (λ i. (e i).result.answer)
+pub wrote_fits : (k : Record) (s : List ℕ) (p : Packet) (f l : List ℕ) {x : Called (Reply ℕ)} {f' l' : List ℕ}
+    → record { result = x; fifo = f'; list = l' } ≡ write_call k p.endpoint (take (p.start + p.len - p.start) (drop p.start s)) f l → length s ≤ 65536 → WriteFits x.answer
+wrote_fits k s p f l {x} e h = go x.answer (λ i. (e i).result.answer)
   where
-    p : List ℕ
-    p = take (start + n - start) (drop start s)
+    b : List ℕ
+    b = take (p.start + p.len - p.start) (drop p.start s)
 
-    go : (y : WriteAnswer) → y ≡ (write_call k ep p f l).result.answer → WriteFits y
-    go (wrote.Done m) q =
-        omega (arith, h, write-answers.value k ep p f l m (sym q), length-take (start + n - start) (drop start s), length-drop start s)
-    go (wrote.Refused z) q = tt
+    go : (y : Reply ℕ) → y ≡ (write_call k p.endpoint b f l).result.answer → WriteFits y
+    go (Ok m) q =
+        omega (arith, h, write-answers.value k p.endpoint b f l m (sym q), length-take (p.start + p.len - p.start) (drop p.start s), length-drop p.start s)
+    go (Err z) q = tt
 
 -- a read that is done has its whole packet in the buffer
 module _ (k : Record) (ep : ℕ) (buf f l : List ℕ) where
-  pub got_fits : {x : ReadCalled} {l' buf' : List ℕ} → record { result = x; list = l'; buf = buf' } ≡ read_call k ep buf f l → length buf ≤ 512 → ReadFits x.answer buf'
+  pub got_fits : {x : Called (Reply ℕ)} {l' buf' : List ℕ} → record { result = x; list = l'; buf = buf' } ≡ read_call k ep buf f l → length buf ≤ 512 → ReadFits x.answer buf'
   got_fits {x} {l'} {buf'} e h = go x.answer (λ i. (e i).result.answer)
     where
-      go : (y : ReadAnswer) → y ≡ (read_call k ep buf f l).result.answer → ReadFits y buf'
-      go (got.Done n) q =
+      go : (y : Reply ℕ) → y ≡ (read_call k ep buf f l).result.answer → ReadFits y buf'
+      go (Ok n) q =
           let c = copies k ep buf f l (ap read_number (sym q)) in
           let said = c.said in
           let is : n ≡ (side_at k.regs.words ep Out).len = cc in
           let whole : length buf' ≡ length buf = ap (λ (o : ReadOutcome). length o.buf) e ∙ c.whole in
           (omega (arith, is, c.room, whole), omega (arith, is, c.room, h))
-      go (got.Refused z) q = tt
+      go (Err z) q = tt
 
 -- the buffer of a read: the front of 512 zeros
 zeros_front : (n m : ℕ) → n ≤ m → take n (replicate {A = ℕ} m 0) ≡ replicate n 0

@@ -1,4 +1,3 @@
-pub mod Shown
 pub mod Act
 pub mod Steps
 pub mod Whole

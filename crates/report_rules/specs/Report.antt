@@ -18,25 +18,37 @@ use Rattle.report_rules.specs.declared.Stepped.{Stepped}
 unfoldable pub line_of : Entry → EntryOutcome → List ℕ
 line_of e o = line (code_of e ∷ o.reply ∷ o.values)
 
+-- What stands under an entry's line, by the state after the entry and the count of its stores: in the report nothing, in the detailed report
+-- (trace_reporter Detailed.`under`) its stores and its record.
+abbrev pub nothing : State → ℕ → List ℕ
+nothing y stores = []
+
 -- The report from a place on, by what stands there. n entries came before, and `rest` is the report after this one.
 -- "An entry cut short, .. prints `bad` and the offset of its first byte, and nothing after it".
-abbrev pub report_by : (ℕ → State → List ℕ) → List ℕ → ℕ → ℕ → State → Parsed → List ℕ
-report_by rest s at n x (parsed.Found e past) = line_of e (acted s e x) ++ rest past (acted s e x).state
-report_by rest s at n x parsed.End = end_line n
-report_by rest s at n x parsed.Bad = bad_line at
+abbrev pub report_by : (State → ℕ → List ℕ) → (ℕ → State → List ℕ) → List ℕ → ℕ → ℕ → State → Parsed → List ℕ
+report_by u rest s at n x (parsed.Found e past) =
+    line_of e (acted s e x) ++ (u (acted s e x).state (acted s e x).stores ++ rest past (acted s e x).state)
+report_by u rest s at n x parsed.End = end_line n
+report_by u rest s at n x parsed.Bad = bad_line at
 
 -- at most so many entries
-unfoldable pub report_from : ℕ → List ℕ → ℕ → ℕ → State → List ℕ
-report_from zero s at n x = []
-report_from (suc most) s at n x = report_by (λ past y. report_from most s past (suc n) y) s at n x (entry_at s at)
+unfoldable pub report_from : (State → ℕ → List ℕ) → ℕ → List ℕ → ℕ → ℕ → State → List ℕ
+report_from u zero s at n x = []
+report_from u (suc most) s at n x = report_by u (λ past y. report_from u most s past (suc n) y) s at n x (entry_at s at)
 
 -- an entry has at least one byte, so that the bytes that are left bound the entries
-unfoldable pub rest_of : List ℕ → ℕ → ℕ → State → List ℕ
-rest_of s at n x = report_from (suc (length s - at)) s at n x
+unfoldable pub rest_with : (State → ℕ → List ℕ) → List ℕ → ℕ → ℕ → State → List ℕ
+rest_with u s at n x = report_from u (suc (length s - at)) s at n x
+
+abbrev pub rest_of : List ℕ → ℕ → ℕ → State → List ℕ
+rest_of s at n x = rest_with nothing s at n x
 
 -- "at most 65,536 bytes"; "input too long prints the header and `bad 65536`"
-unfoldable pub report_for : State → List ℕ → List ℕ
-report_for x s = header ++ cond (leb (length s) 65536) (rest_of s 0 0 x) (bad_line 65536)
+unfoldable pub report_with : (State → ℕ → List ℕ) → State → List ℕ → List ℕ
+report_with u x s = header ++ cond (leb (length s) 65536) (rest_with u s 0 0 x) (bad_line 65536)
+
+abbrev pub report_for : State → List ℕ → List ℕ
+report_for x s = report_with nothing x s
 
 -- where a trace begins: a record and FIFO memory, with a store list of zeros
 abbrev pub beginning : Record → List ℕ → State

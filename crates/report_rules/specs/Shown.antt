@@ -1,13 +1,10 @@
 -- An entry's line, as it stands in the lent buffer, with what its call gave.
 -- Assumes nothing.
-use Rattle.std.specs.Prelude.{ℕ, ◌<◌, ◌≤◌, ◌^◌, ◌≡◌, List, ◌∷◌, length}
+use Rattle.std.specs.Prelude.{ℕ, ◌<◌, ◌≤◌, ◌^◌, ◌≡◌, List, ◌∷◌, length, Err, Ok}
+use Rattle.record.specs.Record.{Reply}
 use Rattle.trace_rules.specs.Text.{Wrote}
 use Rattle.trace_rules.specs.Lines.{line}
 use Rattle.record.specs.declared.Record.{Record}
-use Rattle.transfer_rules.specs.declared.WriteAnswer as write
-use Rattle.transfer_rules.specs.declared.WriteAnswer.TheVariants as wrote
-use Rattle.transfer_rules.specs.declared.ReadAnswer.{ReadAnswer}
-use Rattle.transfer_rules.specs.declared.ReadAnswer.TheVariants as got
 use Rattle.report_rules.specs.declared.Acted.{Acted}
 
 -- "per entry its code, reply and values": r bytes at the front of the buffer, and all else as it was
@@ -22,11 +19,11 @@ pub record Gives (before after : List ℕ) (r : Acted) (code : ℕ) (k : Record)
   pub shown : Shows before after r.len code reply values
 
 -- a length that is printed is one that the decimal writer takes
-abbrev pub WriteFits : write.WriteAnswer → Type 0
-WriteFits (wrote.Done n) = n < 2 ^ 32
-WriteFits (wrote.Refused x) = Unit
+abbrev pub WriteFits : Reply ℕ → Type 0
+WriteFits (Ok n) = n < 2 ^ 32
+WriteFits (Err x) = Unit
 
 -- and a read's is within its buffer
-abbrev pub ReadFits : ReadAnswer → List ℕ → Type 0
-ReadFits (got.Done n) buf = (n ≤ length buf) × (n < 2 ^ 32)
-ReadFits (got.Refused x) buf = Unit
+abbrev pub ReadFits : Reply ℕ → List ℕ → Type 0
+ReadFits (Ok n) buf = (n ≤ length buf) × (n < 2 ^ 32)
+ReadFits (Err x) buf = Unit

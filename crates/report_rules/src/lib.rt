@@ -14,6 +14,7 @@ pub struct Acted {
 }
 
 // What stood at the place: an entry, whose line has so many bytes and after which the next one begins, the end, or something bad.
+// Three cases that each lead to another line, two of which are no error of a caller's: no Option or Result has them without one inside the other.
 #[derive(Clone, Copy)]
 pub enum Came {
     Line(usize, usize),

@@ -1,4 +1,5 @@
 -- The steps of `poll` leave what specs/Steps.antt says. Assumes nothing.
+use Rattle.std.specs.Prelude.{Ok}
 use Prim.Native.Nat.{ℕ, ◌<◌, ◌≤◌}
 use mathlib.Core.Path.{◌≡◌, refl, sym, ap, subst, ◌∙◌}
 use mathlib.Core.Bool.{Bool, true, false, cond}
@@ -24,7 +25,6 @@ use Rattle.round_rules.specs.Zero.{Round, round, sent_by, received_by, zero_by, 
 use Rattle.round_rules.specs.Accepted.{Accepts}
 use Rattle.round_rules.proofs.Accepted.{accepts}
 use Rattle.round_rules.specs.declared.PollResult.TheVariants.{Data, Reset, Resume, Suspend}
-use Rattle.round_rules.specs.declared.PollAnswer.TheVariants.{Done}
 use Rattle.round_rules.specs.Round.{masks, told}
 use Rattle.round_rules.specs.Poll.{After, ended, walked_on, accepted_on, round_out, poll_by, poll_logged, poll_served, poll_call}
 use Rattle.round_rules.specs.Steps.{FlagStep, left_of, SameElse, AcceptedRound}
@@ -95,7 +95,7 @@ module _ (g : Log) (c : ControlState) (f : Flags) (s : c.state ≡ Accepted) whe
       let a : Accepts o.control o.irq (accept_step o.control o.irq) =
       accepts o.control o.irq (omega (arith, passed.tx)) (omega (arith, passed.rx)) (ap (λ (x : ControlState). x.state) passed.control ∙ s) in
       record {
-        named = (_, ap Done (names _ _ _ a.sent), a.sent);
+        named = (_, ap Ok (names _ _ _ a.sent), a.sent);
         idle = a.idle;
         remaining = a.remaining ∙ ap (λ (x : ControlState). x.tx_len) passed.control;
       }

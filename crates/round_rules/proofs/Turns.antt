@@ -1,5 +1,5 @@
 -- The walk of the receive flags: what holds at each turn. Assumes nothing.
-use Prim.Native.Nat.{ℕ, ◌+◌, ◌*◌, ◌≤◌, ◌<◌}
+use Prim.Native.Nat.{ℕ, ◌+◌, ◌≤◌, ◌<◌}
 use mathlib.Core.Path.{◌≡◌, refl, sym, ap, ◌∙◌}
 use mathlib.Core.List.{◌∷◌, foldl}
 use native.Mathlib.Omega.{arith}
@@ -33,11 +33,6 @@ module _ (flags : ℕ) (s : Walk) where
         few = omega (arith, ap length f, w.few, k);
         long = h ∙ w.long;
       }
-
-  -- there is room for one store more
-  pub fits : (o : Walk) (rest e : ℕ) → Walking flags s o rest → Lowest rest e → s.log.count * 3 + 18 ≤ length s.log.list
-      → o.log.count * 3 + 3 ≤ length o.log.list
-  fits o rest e w l h = omega (arith, ap length l.first, w.few, w.long)
 
   pub done : (o : Walk) (rest : ℕ) → Walking flags s o rest → rest ≡ 0 → o ≡ foldl (visit flags) s (set_bits flags)
   done o rest w z = ap (foldl (visit flags) o) (sym (ap set_bits z ∙ set_bits_zero)) ∙ w.fold

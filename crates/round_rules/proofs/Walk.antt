@@ -1,7 +1,7 @@
--- From the promises of a function's steps to its definition, a law for each way through it. Assumes nothing.
+-- One endpoint of the walk, from what is promised of its steps. Assumes nothing.
 use Prim.Native.Nat.{ℕ}
 use mathlib.Core.Path.{◌≡◌, sym, ap, subst, ◌∙◌}
-use mathlib.Core.Bool.{Bool, false, cond}
+use mathlib.Core.Bool.{Bool, cond}
 use borrow.Author.Tests.{eq-eqb, ne_eqb}
 use native.Mathlib.Decide.{ℕ_discrete}
 use lib.Dec.{eqb}
@@ -31,9 +31,6 @@ pub drained_selected : (flags out e : ℕ) (h : Log) {g : Log} {b : Bool} {w : �
 unfolding drained
 drained_selected flags out e h {g} p t q =
     q ∙ ap (λ (b : Bool). cond b out (clear flags e)) (t ∙ subst (λ (r : File). (side_at r e Out).ready ≡ ready_at e r) (sym (ap (λ (x : Log). x.regs) p ∙ index_selects e h)) (ready_selected h.regs e))
-
-pub drain_empty : (flags out e : ℕ) {b : Bool} {w : ℕ} → b ≡ false → w ≡ clear flags e → w ≡ cond b out (clear flags e)
-drain_empty flags out e t q = when_false _ _ t q
 
 -- one endpoint of the walk
 pub visited : (flags e : ℕ) (o : Walk) {g : Log} {w : ℕ} → g ≡ write_index e o.log → w ≡ drained flags o.out e g.regs → walk g w ≡ visit flags o e

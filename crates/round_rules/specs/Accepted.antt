@@ -6,7 +6,7 @@ use Rattle.laws.specs.Words.{bit}
 use Rattle.control_state.specs.declared.ControlState.{ControlState}
 use Rattle.control_state.specs.declared.ControlStateEnum.TheVariants.{Idle}
 use Rattle.record.specs.declared.Flags.{Flags}
-use Rattle.round_rules.specs.declared.AfterAccept.{AfterAccept}
+use Rattle.round_rules.specs.Zero.{AfterAccept}
 
 -- in Accepted: endpoint 0 is to be named as sent and not for reading ("Ignore RX. This will be addressed in the next poll.", so that its own
 -- flag goes up), Idle follows, and nothing else changes

@@ -1,52 +1,45 @@
 -- `poll` whole: the refusals, the overrun check, then Reset, Resume, Suspend, and a round.
 -- Assumes nothing.
-use Rattle.std.specs.Prelude.{ℕ, Bool, true, false, List, [], ◌∷◌, ltb, length}
+use Rattle.std.specs.Prelude.{ℕ, Bool, true, false, List, [], ◌∷◌, ltb, length, Err, Ok}
+use Rattle.record.specs.declared.Called.{Called}
 use Rattle.board.specs.declared.Board.{Board}
 use Rattle.register_file.specs.Registers.{File}
 use Rattle.store_rules.specs.Stores.{Log, log}
 use Rattle.common_rules.specs.Overrun.{check_overrun}
 use Rattle.control_state.specs.declared.ControlState.{ControlState}
 use Rattle.record.specs.declared.Flags.{Flags}
-use Rattle.record.specs.declared.Admission.{Admission}
-use Rattle.record.specs.declared.Admission.TheVariants as admission
+use Rattle.record.specs.declared.Ran.{Ran}
 use Rattle.record.specs.declared.Record.{Record}
-use Rattle.record.specs.Record.{endpoints_in, passes, admission_by, list_need, refusal_number, with_reset, with_suspend, with_resume, with_tx, with_rx}
+use Rattle.record.specs.Record.{endpoints_in, passes, admission_by, list_need, refusal_number, with_reset, with_suspend, with_resume, with_tx, with_rx, Reply}
 use Rattle.round_rules.specs.declared.PollResult.{PollResult}
 use Rattle.round_rules.specs.declared.PollResult.TheVariants.{None, Data, Reset, Resume, Suspend}
-use Rattle.round_rules.specs.declared.PollAnswer.{PollAnswer}
-use Rattle.round_rules.specs.declared.PollAnswer.TheVariants.{Done, Refused}
-use Rattle.round_rules.specs.declared.PollCalled.{PollCalled}
-use Rattle.round_rules.specs.declared.PollRan.{PollRan}
 use Rattle.round_rules.specs.Zero.{Round, round, endpoint_zero, accept_step}
 use Rattle.round_rules.specs.Walk.{Walk, walked}
 use Rattle.round_rules.specs.Round.{told}
 
 pub record PollOutcome : Type 0 where
-  pub result : PollCalled
+  pub result : Called (Reply PollResult)
   pub list : List ℕ
 
-abbrev pub outcome : PollCalled → List ℕ → PollOutcome
+abbrev pub outcome : Called (Reply PollResult) → List ℕ → PollOutcome
 outcome p l = record { result = p; list = l }
 
 -- the answer, and what a poll changes: the log, the control state and the flags
 pub record After : Type 0 where
-  pub answer : PollAnswer
+  pub answer : Reply PollResult
   pub log : Log
   pub control : ControlState
   pub irq : Flags
 
-abbrev pub after : PollAnswer → Log → ControlState → Flags → After
+abbrev pub after : Reply PollResult → Log → ControlState → Flags → After
 after a g c f = record { answer = a; log = g; control = c; irq = f }
 
 abbrev pub answered : PollResult → Log → ControlState → Flags → After
-answered a g c f = after (Done a) g c f
+answered a g c f = after (Ok a) g c f
 
--- what a function of the code gives back, with its registers and its list
-abbrev pub polled : PollResult → ℕ → ControlState → Flags → PollRan
-polled a n c f = record { answer = Done a; n = n; control_state = c; irq = f }
-
-abbrev pub after_of : PollRan → File → List ℕ → After
-after_of o w l = after o.answer (log w l o.n) o.control_state o.irq
+-- what a function of the code gives back, with what it leaves of what it was lent
+abbrev pub after_of : Ran (Reply PollResult) → File → List ℕ → ControlState → Flags → After
+after_of o w l c f = after o.answer (log w l o.n) c f
 
 -- the record k with what a poll changes of it, and its answer
 abbrev pub outcome_of : Record → After → PollOutcome
@@ -88,9 +81,9 @@ unfoldable pub poll_served : Board → Log → ControlState → Flags → After
 poll_served b g c f = poll_logged (check_overrun (endpoints_in b) g) c f
 
 -- the whole outcome: refused with 15 or 16, or served
-abbrev pub poll_when : Admission → Board → Log → ControlState → Flags → After
-poll_when (admission.Refused x) b g c f = after (Refused x) g c f
-poll_when admission.Clear b g c f = poll_served b g c f
+abbrev pub poll_when : Reply Unit → Board → Log → ControlState → Flags → After
+poll_when (Err x) b g c f = after (Err x) g c f
+poll_when (Ok tt) b g c f = poll_served b g c f
 
 unfoldable pub poll_admitted : Board → File → List ℕ → ControlState → Flags → After
 poll_admitted b w l c f = poll_when (admission_by (ltb (length l) list_need) (passes b w f) false) b (log w l 0) c f
@@ -100,9 +93,9 @@ poll_call k l = outcome_of k (poll_admitted k.regs.board k.regs.words l k.contro
 
 -- document 01's reply, and the values that the report prints: "for poll 0 None, 1 Data with out, in, setup masks, 2 Reset, 3 Resume,
 -- 4 Suspend"
-abbrev pub poll_number : PollAnswer → ℕ
-poll_number (Done a) = 0
-poll_number (Refused x) = refusal_number x
+abbrev pub poll_number : Reply PollResult → ℕ
+poll_number (Ok a) = 0
+poll_number (Err x) = refusal_number x
 
 abbrev pub result_values : PollResult → List ℕ
 result_values None = 0 ∷ []
@@ -111,6 +104,6 @@ result_values Reset = 2 ∷ []
 result_values Resume = 3 ∷ []
 result_values Suspend = 4 ∷ []
 
-abbrev pub poll_values : PollAnswer → List ℕ
-poll_values (Done a) = result_values a
-poll_values (Refused x) = []
+abbrev pub poll_values : Reply PollResult → List ℕ
+poll_values (Ok a) = result_values a
+poll_values (Err x) = []

@@ -1,6 +1,6 @@
 -- What the steps of `poll` leave, beside their definition and apart from it: Reset, Resume, Suspend; a round in Accepted; the walk of a round.
 -- Assumes nothing.
-use Rattle.std.specs.Prelude.{◌≡◌, Bool, true}
+use Rattle.std.specs.Prelude.{◌≡◌, Bool, true, Ok}
 use Rattle.laws.specs.Words.{bit}
 use Rattle.store_rules.specs.Stores.{Log, log}
 use Rattle.control_state.specs.declared.ControlState.{ControlState}
@@ -10,12 +10,11 @@ use Rattle.record.specs.declared.Record.{Record}
 use Rattle.round_rules.specs.declared.Masks.{Masks}
 use Rattle.round_rules.specs.declared.PollResult.{PollResult}
 use Rattle.round_rules.specs.declared.PollResult.TheVariants.{Data}
-use Rattle.round_rules.specs.declared.PollAnswer.TheVariants.{Done}
 use Rattle.round_rules.specs.Poll.{After, after, PollOutcome}
 
 -- such a step answers a, leaves the reset flag r, the suspend flag s and the resume flag m, and stores nothing and changes nothing else
 pub record FlagStep (a : PollResult) (g : Log) (c : ControlState) (f : Flags) (r s m : Bool) (t : After) : Type 0 where
-  pub answer : t.answer ≡ Done a
+  pub answer : t.answer ≡ Ok a
   pub log : t.log ≡ g
   pub control : t.control ≡ c
   pub reset : t.irq.reset ≡ r
@@ -37,6 +36,6 @@ pub record SameElse (k q : Record) : Type 0 where
 
 -- a round in Accepted names endpoint 0 as sent, though no packet was stored, and ends in Idle
 pub record AcceptedRound (c : ControlState) (t : After) : Type 0 where
-  pub named : (m : Masks) × (t.answer ≡ Done (Data m)) × (bit m.ep_in_complete 0 ≡ true)
+  pub named : (m : Masks) × (t.answer ≡ Ok (Data m)) × (bit m.ep_in_complete 0 ≡ true)
   pub idle : t.control.state ≡ Idle
   pub remaining : t.control.tx_len ≡ c.tx_len

@@ -1,12 +1,11 @@
 -- The walk of the receive flags, in one round of `poll`.
 -- Assumes nothing.
 use Rattle.std.specs.Prelude.{ℕ, Bool, cond, eqb}
-use mathlib.Core.List.{List, foldl}
+use mathlib.Core.List.{foldl}
 use Rattle.laws.specs.Words.{clear, set_bits}
 use Rattle.register_file.specs.Registers.{File}
 use Rattle.register_file.specs.Control.{csr0l_read, rxcsrl_read}
 use Rattle.store_rules.specs.Stores.{Log, write_index}
-use Rattle.round_rules.specs.declared.Walked.{Walked}
 
 -- the walk's RxPktRdy, read after the index store: CSR0L's for endpoint 0, RXCSRL's for the others
 unfoldable pub ready_at : ℕ → File → Bool
@@ -19,9 +18,6 @@ pub record Walk : Type 0 where
 
 abbrev pub walk : Log → ℕ → Walk
 walk g out = record { log = g; out = out }
-
-abbrev pub walk_of : Walked → File → List ℕ → Walk
-walk_of o w l = record { log = record { regs = w; list = l; count = o.n }; out = o.out }
 
 -- `IRQ_EP_RX.store(rx_flags & !(1 << index), ..)`: "Each drained flag is cleared from the flags as first read, so one round clears only
 -- the highest drained one."

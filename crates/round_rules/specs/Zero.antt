@@ -1,9 +1,8 @@
 -- Endpoint 0 and the Accepted step, in one round of `poll`.
 -- Assumes nothing.
-use Rattle.std.specs.Prelude.{ℕ, Bool, true, false, cond, List, eqb}
+use Rattle.std.specs.Prelude.{Bool, true, false, cond, eqb}
 use Rattle.laws.specs.Words.{bit, raised, clear}
 use Rattle.csr.specs.declared.Csr0lSet.TheVariants.{ServicedSetupEnd}
-use Rattle.register_file.specs.Registers.{File}
 use Rattle.register_file.specs.Control.{csr0l_read, count0}
 use Rattle.store_rules.specs.Stores.{Log, write_index, modify_csr0l}
 use Rattle.control_state.specs.declared.ControlState.{ControlState}
@@ -12,8 +11,6 @@ use Rattle.control_state.specs.declared.ControlStateEnum.TheVariants.{Idle, Setu
 use Rattle.control_state.specs.Control.{with_state, with_tx_len}
 use Rattle.record.specs.declared.Flags.{Flags}
 use Rattle.record.specs.Record.{with_ep0, with_tx, with_rx}
-use Rattle.round_rules.specs.declared.Progress.{Progress}
-use Rattle.round_rules.specs.declared.AfterAccept.{AfterAccept}
 
 -- what the steps of a round change: the log, the control state, the flags, and the source's `setup`
 pub record Round : Type 0 where
@@ -24,10 +21,6 @@ pub record Round : Type 0 where
 
 abbrev pub round : Log → ControlState → Flags → Bool → Round
 round g c f s = record { log = g; control = c; irq = f; setup = s }
-
--- what a function of the code gives back, with its registers and its list
-abbrev pub round_of : Progress → File → List ℕ → Round
-round_of o w l = record { log = record { regs = w; list = l; count = o.n }; control = o.control_state; irq = o.irq; setup = o.setup }
 
 -- `(false, false)`: in DataIn "interrupt generated due to a packet has been transmitted"
 unfoldable pub sent_by : ControlStateEnum → Flags → Flags
@@ -74,6 +67,14 @@ zero_served g c f = zero_by (csr0l_read g.regs).rx_pkt_rdy (csr0l_read g.regs).t
 -- `if IRQ_EP0.load(..) { index().write(0) .. }`
 unfoldable pub endpoint_zero : Log → ControlState → Flags → Round
 endpoint_zero g c f = cond f.ep0 (zero_served (write_index 0 g) c f) (round g c f false)
+
+-- what the Accepted step changes
+pub record AfterAccept : Type 0 where
+  pub control_state : ControlState
+  pub irq : Flags
+
+abbrev pub after_accept : ControlState → Flags → AfterAccept
+after_accept c f = record { control_state = c; irq = f }
 
 -- the Accepted step: a receive flag of endpoint 0 "will be addressed in the next poll"
 unfoldable pub put_back : Flags → Flags

@@ -15,6 +15,7 @@ use register_file::Regs;
 use std::io;
 use std::io::Write;
 
+// Which bits of a number are which flags. Three structs of their own flags in their own order: one function for them would need such a table for each.
 fn csr0l_of(v: u16) -> Csr0l {
     Csr0l {
         rx_pkt_rdy: laws::has_bit(v, 0),
@@ -53,33 +54,6 @@ fn rxcsrl_of(v: u16) -> Rxcsrl {
     }
 }
 
-// What a `modify` sets.
-fn csr0l_change(code: u8) -> Csr0lSet {
-    match code {
-        18 => Csr0lSet::TxPktRdy,
-        19 => Csr0lSet::DataEnd,
-        20 => Csr0lSet::ServicedRxPktRdy,
-        21 => Csr0lSet::ServicedSetupEnd,
-        _ => Csr0lSet::ServicedBoth,
-    }
-}
-
-fn txcsrl_change(code: u8) -> TxcsrlSet {
-    match code {
-        23 => TxcsrlSet::TxPktRdy,
-        24 => TxcsrlSet::FlushFifo,
-        _ => TxcsrlSet::NoUnderRun,
-    }
-}
-
-fn rxcsrl_change(code: u8) -> RxcsrlSet {
-    match code {
-        26 => RxcsrlSet::NoRxPktRdy,
-        27 => RxcsrlSet::FlushFifo,
-        _ => RxcsrlSet::NoOverRun,
-    }
-}
-
 // Of two steps that differ in their side alone the even one is the transmit side's.
 fn side(code: u8) -> Direction {
     if code % 2 == 0 {
@@ -90,6 +64,7 @@ fn side(code: u8) -> Direction {
 }
 
 // The stores, by document 01's register numbers.
+// (A step stays its number, here and below: it is the script's, which oracle/ and `make` write too; an enum would be one more table of the 43.)
 fn stored(w: &mut [u16; 46], list: &mut [u16], code: u8, e: u8, v: u16) -> usize
     requires { 3 ≤ length list.old }
     ensures { result ≤ 1 }
@@ -98,10 +73,10 @@ fn stored(w: &mut [u16; 46], list: &mut [u16], code: u8, e: u8, v: u16) -> usize
         1 => stores::write_faddr(w, list, 0, e),
         2 => stores::write_power(w, list, 0),
         3 => stores::write_index(w, list, 0, e),
-        4 => stores::write_csr0l(w, list, 0, csr0l_of(v)),
+        4 => stores::write(w, list, 0, csr0l_of(v)),
         5 => stores::flush_csr0h(w, list, 0),
-        6 => stores::write_txcsrl(w, list, 0, txcsrl_of(v)),
-        7 => stores::write_rxcsrl(w, list, 0, rxcsrl_of(v)),
+        6 => stores::write(w, list, 0, txcsrl_of(v)),
+        7 => stores::write(w, list, 0, rxcsrl_of(v)),
         14 => stores::write_intrusbe(w, list, 0),
         15 => stores::write_packet(w, list, 0, v),
         _ => 0,
@@ -118,9 +93,17 @@ fn changed(w: &mut [u16; 46], list: &mut [u16], code: u8, e: u8, v: u16) -> usiz
         10 | 11 => stores::write_maxp(w, list, 0, d, v),
         12 | 13 => stores::write_intre(w, list, 0, d, v),
         16 | 17 => stores::modify_intre(w, list, 0, d, e % 16),
-        18..=22 => stores::modify_csr0l(w, list, 0, csr0l_change(code)),
-        23..=25 => stores::modify_txcsrl(w, list, 0, txcsrl_change(code)),
-        26..=28 => stores::modify_rxcsrl(w, list, 0, rxcsrl_change(code)),
+        18 => stores::modify::<Csr0l>(w, list, 0, Csr0lSet::TxPktRdy),
+        19 => stores::modify::<Csr0l>(w, list, 0, Csr0lSet::DataEnd),
+        20 => stores::modify::<Csr0l>(w, list, 0, Csr0lSet::ServicedRxPktRdy),
+        21 => stores::modify::<Csr0l>(w, list, 0, Csr0lSet::ServicedSetupEnd),
+        22 => stores::modify::<Csr0l>(w, list, 0, Csr0lSet::ServicedBoth),
+        23 => stores::modify::<Txcsrl>(w, list, 0, TxcsrlSet::TxPktRdy),
+        24 => stores::modify::<Txcsrl>(w, list, 0, TxcsrlSet::FlushFifo),
+        25 => stores::modify::<Txcsrl>(w, list, 0, TxcsrlSet::NoUnderRun),
+        26 => stores::modify::<Rxcsrl>(w, list, 0, RxcsrlSet::NoRxPktRdy),
+        27 => stores::modify::<Rxcsrl>(w, list, 0, RxcsrlSet::FlushFifo),
+        28 => stores::modify::<Rxcsrl>(w, list, 0, RxcsrlSet::NoOverRun),
         _ => stored(w, list, code, e, v),
     }
 }
@@ -133,7 +116,6 @@ fn put_packet(w: &[u16; 46], bytes: &[u8], fifo: &mut [u8])
     let to = board::area(Board::Display, (e % 256) as u8, Direction::In);
     if bytes.len() <= to.size {
         fifo::put_bytes(fifo, to, bytes);
-        return;
     }
 }
 
@@ -144,7 +126,6 @@ fn arrived(w: &mut [u16; 46], e: u8, bytes: &[u8], fifo: &mut [u8])
     let to = board::area(Board::Display, e, Direction::Out);
     if bytes.len() <= to.size {
         events::arrive(w, e % 16, bytes, to, fifo);
-        return;
     }
 }
 
@@ -175,7 +156,7 @@ fn happened(w: &mut [u16; 46], code: u8, e: u8) {
         34 => events::bus(w, BusEvent::Resume),
         35 => events::setup_end(w),
         36 | 37 => events::miss(w, e, d),
-        38 | 39 => put_stalled(w, e as u16, d),
+        38 | 39 => put_stalled(w, u16::from(e), d),
         _ => {}
     }
 }
@@ -193,16 +174,12 @@ fn word(w: &mut [u16; 46], code: u8) -> u16 {
 fn taken(w: &[u16; 46], e: u8, d: Direction, v: u16, fifo: &[u8; 1664]) -> [u8; 8] {
     let mut out = [255u8; 8];
     let from = board::area(Board::Display, e, d);
-    let n = trace_text::least(regs::waiting_len(w, e, d) as usize, from.size);
-    let k = trace_text::least(v as usize, 8);
-    fifo::take_bytes(fifo, from, trace_text::least(n, k), &mut out[..k]);
+    let k = usize::from(regs::waiting_len(w, e, d))
+        .min(from.size)
+        .min(usize::from(v))
+        .min(8);
+    fifo::take_bytes(fifo, from, k, &mut out[..k]);
     out
-}
-
-fn wide(x: u8) -> u16
-    ensures { result < 256 }
-{
-    x as u16
 }
 
 // Where any byte changes, or moves, so does this.
@@ -213,11 +190,9 @@ fn sum(code: u8, b: &[u8; 1664]) -> u32
         0 | 15 | 29..=31 => {}
         _ => return 0,
     }
-    let mut c = 0u32;
-    let mut i = 0usize;
-    while i < 1664 {
-        c = (c * 31 + wide(b[i]) as u32) % 65521;
-        i += 1;
+    let mut c = 0;
+    for x in b {
+        c = (c * 31 + u32::from(*x)) % 65521;
     }
     c
 }
@@ -233,14 +208,15 @@ fn put_first<W: Write>(
     fifo: &[u8; 1664],
 ) -> io::Result<()> {
     let mut line = [0u8; 256];
-    let number = word as u32 + sum(code, fifo);
-    if (code == 30) | (code == 31) {
-        let out = taken(w, e, side(code), v, fifo);
-        let n = trace_report::counted_line(&mut line, code, e, number, &out);
-        return to.write_all(&line[..n]);
-    }
-    let m = trace_report::value_line(&mut line, code, e, number);
-    to.write_all(&line[..m])
+    let number = u32::from(word) + sum(code, fifo);
+    let n = match code {
+        30 | 31 => {
+            let out = taken(w, e, side(code), v, fifo);
+            trace_report::counted_line(&mut line, code, e, number, &out)
+        }
+        _ => trace_report::value_line(&mut line, code, e, number),
+    };
+    to.write_all(&line[..n])
 }
 
 // The two lines of the detail report.
@@ -268,30 +244,24 @@ fn begun(code: u8, r: Regs) -> Regs {
 // A step of the script, five bytes: the code; an endpoint, or an address; a number, low byte first; a packet's first byte.
 fn act<W: Write>(
     to: &mut W,
-    script: &[u8],
-    at: usize,
+    packets: &[u8; 768],
+    step: &[u8; 5],
     r: Regs,
     list: &mut [u16; 384],
     fifo: &mut [u8; 1664],
-) -> io::Result<Regs>
-    requires { (768 ≤ length script.now) × (at + 5 ≤ length script.now) }
-{
-    let code = script[at];
-    let e = script[at + 1];
-    let v = wide(script[at + 2]) + 256 * wide(script[at + 3]);
-    let from = wide(script[at + 4]) as usize;
-    let past = from + trace_text::least(v as usize, 512);
-    let q = begun(code, r);
-    let b = q.board;
-    let mut w = q.words;
-    packet(&mut w, code, e, &script[from..past], fifo);
-    let number = word(&mut w, code);
-    put_first(to, &w, code, e, v, number, fifo)?;
-    happened(&mut w, code, e);
-    let n = changed(&mut w, list, code, e, v);
-    let o = Regs { board: b, words: w };
-    put_details(to, o, list, n)?;
-    Ok(o)
+) -> io::Result<Regs> {
+    let [code, e, low, high, from] = *step;
+    let v = u16::from_le_bytes([low, high]);
+    let from = usize::from(from);
+    let past = from + usize::from(v).min(512);
+    let mut r = begun(code, r);
+    packet(&mut r.words, code, e, &packets[from..past], fifo);
+    let number = word(&mut r.words, code);
+    put_first(to, &r.words, code, e, v, number, fifo)?;
+    happened(&mut r.words, code, e);
+    let n = changed(&mut r.words, list, code, e, v);
+    put_details(to, r, list, n)?;
+    Ok(r)
 }
 
 fn main(rt: HostRuntime) -> io::Result<()> {
@@ -300,10 +270,11 @@ fn main(rt: HostRuntime) -> io::Result<()> {
     let mut list = [0u16; 384];
     let mut fifo = [0u8; 1664];
     let mut r = regs::fresh(Board::Display);
-    let mut at = 768usize;
-    while at + 5 <= n {
-        r = act(&mut rt.stdout(), &script, at, r, &mut list, &mut fifo)?;
-        at += 5;
+    if let Some((packets, rest)) = script[..n].split_first_chunk::<768>() {
+        let (steps, _) = rest.as_chunks::<5>();
+        for step in steps {
+            r = act(&mut rt.stdout(), packets, step, r, &mut list, &mut fifo)?;
+        }
     }
     Ok(())
 }

@@ -8,7 +8,7 @@
 ghost use Rattle.std.specs.Prelude.{◌≤◌};
 
 use board::Direction;
-use endpoints::{EndpointType, Wanted};
+use endpoints::EndpointType;
 use record::Record;
 use std::io;
 use std::io::Write;
@@ -27,6 +27,8 @@ fn print<W: Write>(to: &mut W, k: Record, list: &[u16], n: usize) -> io::Result<
     to.write_all(&line[..r])
 }
 
+// One function of a closure in place of the next seven was tried, and misses the bar: what it hands over is counted with the call (poll 298 instructions for
+// 240, write 349 for 293, read 386 for 346, reset 718 for 687).
 fn polls<W: Write>(to: &mut W, k: Record, twice: bool, list: &mut [u16]) -> io::Result<()> {
     let a = usb_device_poll::poll(k, list);
     if twice {
@@ -113,9 +115,9 @@ fn resets<W: Write>(to: &mut W, k: Record, twice: bool, list: &mut [u16]) -> io:
 }
 
 fn allocations<W: Write>(to: &mut W, k: Record, twice: bool, list: &[u16]) -> io::Result<()> {
-    let a = usb_device_alloc::alloc_ep(k, Direction::Out, Wanted::Any, EndpointType::Bulk, 64);
+    let a = usb_device_alloc::alloc_ep(k, Direction::Out, None, EndpointType::Bulk, 64);
     if twice {
-        let b = usb_device_alloc::alloc_ep(k, Direction::Out, Wanted::Any, EndpointType::Bulk, 64);
+        let b = usb_device_alloc::alloc_ep(k, Direction::Out, None, EndpointType::Bulk, 64);
         return print(to, b.record, list, 0);
     }
     print(to, a.record, list, 0)
@@ -132,37 +134,19 @@ fn run<W: Write>(
     fifo: &mut [u8],
     list: &mut [u16],
 ) -> io::Result<()> {
-    if case <= b'b' {
-        return polls(to, k, twice, list);
+    match case {
+        0..=b'b' => polls(to, k, twice, list),
+        b'c' => interrupts(to, k, twice, list),
+        b'd' => resets(to, k, twice, list),
+        b'e' => allocations(to, k, twice, list),
+        b'f' => writes(to, k, ep, twice, 8, fifo, list),
+        b'g' => writes(to, k, ep, twice, 64, fifo, list),
+        b'h' => writes(to, k, ep, twice, 512, fifo, list),
+        b'i'..=b'k' => reads(to, k, ep, twice, fifo, list),
+        b'l' => arrivals(to, k, ep, twice, 8, fifo, list),
+        b'm' => arrivals(to, k, ep, twice, 64, fifo, list),
+        _ => arrivals(to, k, ep, twice, 512, fifo, list),
     }
-    if case == b'c' {
-        return interrupts(to, k, twice, list);
-    }
-    if case == b'd' {
-        return resets(to, k, twice, list);
-    }
-    if case == b'e' {
-        return allocations(to, k, twice, list);
-    }
-    if case == b'f' {
-        return writes(to, k, ep, twice, 8, fifo, list);
-    }
-    if case == b'g' {
-        return writes(to, k, ep, twice, 64, fifo, list);
-    }
-    if case == b'h' {
-        return writes(to, k, ep, twice, 512, fifo, list);
-    }
-    if case <= b'k' {
-        return reads(to, k, ep, twice, fifo, list);
-    }
-    if case == b'l' {
-        return arrivals(to, k, ep, twice, 8, fifo, list);
-    }
-    if case == b'm' {
-        return arrivals(to, k, ep, twice, 64, fifo, list);
-    }
-    arrivals(to, k, ep, twice, 512, fifo, list)
 }
 
 fn main(rt: HostRuntime) -> io::Result<()> {

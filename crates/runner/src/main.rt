@@ -19,43 +19,41 @@ use std::env::{Env, FillError};
 use std::io;
 use std::io::{Read, Write};
 
-#[derive(Clone, Copy)]
+#[derive(Clone, Copy, Default)]
 struct Asked {
     detail: bool,
     given: bool,
-    known: bool,
 }
 
-fn word(a: Asked, w: &[u8]) -> Asked {
-    let mut o = a;
+#[derive(Clone, Copy)]
+struct UnknownWord;
+
+fn word(a: Asked, w: &[u8]) -> Result<Asked, UnknownWord> {
     match w {
-        b"detail" => o.detail = true,
-        b"given" => o.given = true,
-        b"display" => {}
-        _ => o.known = false,
+        b"detail" => Ok(Asked { detail: true, ..a }),
+        b"given" => Ok(Asked { given: true, ..a }),
+        b"display" => Ok(a),
+        _ => Err(UnknownWord),
     }
-    o
 }
 
 // A word that the memory does not hold is none of the three.
-fn words(env: &impl Env) -> Asked {
-    let mut a = Asked {
-        detail: false,
-        given: false,
-        known: true,
-    };
+// (run_replay walks its arguments likewise: a function of both would be a crate, lent a closure that may fail, for these lines.)
+fn words(env: &impl Env) -> Result<Asked, UnknownWord> {
+    let mut a = Asked::default();
     for i in 1..usize::MAX {
         let mut w = [0u8; 4096];
         match env.arg(i, &mut w) {
-            Ok(n) => a = word(a, &w[..n]),
-            Err(FillError::TooLong) => a.known = false,
+            Ok(n) => a = word(a, &w[..n])?,
+            Err(FillError::TooLong) => return Err(UnknownWord),
             Err(FillError::NotPresent) => break,
         }
     }
-    a
+    Ok(a)
 }
 
 // One byte more than document 01 allows is read, so that a trace that is too long is seen to be so: the report is that of all bytes that follow.
+// (Not one function with `report_fresh`: each has clauses of its own, here of the 2,048 bytes that stand before the trace.)
 fn report_given<R: Read, W: Write>(from: &mut R, to: &mut W, detail: bool) -> io::Result<()>
     ensures written { detail ≡ false → OnOk result (IfSome (R.remaining from.old) (λ xs. 2048 ≤ length xs → Appends (W.contents to.old) (W.contents to.new) (report_for (begun_behind xs) (drop 2048 xs)))) }
     ensures detailed { detail ≡ true → OnOk result (IfSome (R.remaining from.old) (λ xs. 2048 ≤ length xs → Appends (W.contents to.old) (W.contents to.new) (detailed_for (begun_behind xs) (drop 2048 xs)))) }
@@ -83,10 +81,9 @@ fn report_fresh<R: Read, W: Write>(from: &mut R, to: &mut W, detail: bool) -> io
 }
 
 fn main(rt: HostRuntime) -> io::Result<()> {
-    let a = words(&rt);
-    if !a.known {
+    let Ok(a) = words(&rt) else {
         return rt.eprintln("runner: the words are display, detail and given");
-    }
+    };
     if a.given {
         return report_given(&mut rt.stdin(), &mut rt.stdout(), a.detail);
     }

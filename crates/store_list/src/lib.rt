@@ -50,6 +50,7 @@ pub fn put(list: &mut [u16], n: usize, register: u16, endpoint: u16, value: u16)
     n + 1
 }
 
+// The registers that come in pairs, by direction: each function is a row of that table, and no plainer with its two numbers as arguments.
 pub fn csrh_of(d: Direction) -> u16
     ensures { result ≡ csrh d }
 {

@@ -8,11 +8,12 @@ ghost use Rattle.calls.specs.Calls as calls;
 ghost use Rattle.report_rules.specs.Act.{state, bus_operation, did, acted, Acts, Lent};
 
 use event_rules::BusEvent;
-use record::{Answered, Record};
+use record::{Answered, Record, Reply};
 use report_rules::Acted;
 use trace_rules::Entry;
 
 // A packet is handed on as a part of the trace.
+// (What is lent goes on as it is: a struct that holds it would have to say in each contract that it is the same still.)
 pub fn act(
     trace: &[u8],
     e: Entry,
@@ -26,7 +27,7 @@ pub fn act(
 {
     let code = trace_entries::code_of(e);
     match e {
-        Entry::Allocate(d, w, t, n) => trace_answers::allocated(
+        Entry::Allocate(d, w, t, n) => trace_answers::answered(
             line,
             code,
             usb_device_alloc::alloc_ep(k, d, w, t, n),
@@ -38,12 +39,12 @@ pub fn act(
             code,
             usb_device_impl::set_device_address(k, a, list),
         ),
-        Entry::Write(ep, start, n) => {
-            let end = start + n;
+        Entry::Write(p) => {
+            let end = p.start + p.len;
             trace_answers::written(
                 line,
                 code,
-                usb_device_write::write(k, ep, &trace[start..end], fifo, list),
+                usb_device_write::write(k, p.endpoint, &trace[p.start..end], fifo, list),
             )
         }
         Entry::Read(ep, n) => read(k, ep, n, fifo, list, line, code),
@@ -52,21 +53,25 @@ pub fn act(
             code,
             usb_device_stall::set_stalled(k, ep, d, on, list),
         ),
-        Entry::IsStalled(ep, d) => trace_answers::told(
+        Entry::IsStalled(ep, d) => trace_answers::called(
             line,
             code,
             usb_device_stall::is_stalled(k, ep, d, list),
         ),
-        Entry::Poll => trace_answers::polled(line, code, usb_device_poll::poll(k, list)),
+        Entry::Poll => trace_answers::called(line, code, usb_device_poll::poll(k, list)),
         Entry::Interrupt => trace_answers::answered(
             line,
             code,
             usb_device_interrupt::on_interrupt(k),
         ),
         Entry::Enable => trace_answers::called(line, code, usb_device_impl::enable(k, list)),
-        Entry::Arrival(ep, start, n) => {
-            let end = start + n;
-            trace_answers::answered(line, code, host::arrival(k, ep, &trace[start..end], fifo))
+        Entry::Arrival(p) => {
+            let end = p.start + p.len;
+            trace_answers::answered(
+                line,
+                code,
+                host::arrival(k, p.endpoint, &trace[p.start..end], fifo),
+            )
         }
         Entry::Collect(ep) => trace_answers::collected(
             line,
@@ -95,8 +100,7 @@ fn read(
     ensures { Acts line.old line.new result fifo.now list.new code (did (state k fifo.now list.old) (calls.read ep (replicate n 0) fifo.now list.old)) }
 {
     let mut buf = zeros();
-    let m = n as usize;
-    fetch(k, ep, fifo, list, &mut buf[..m], line, code)
+    fetch(k, ep, fifo, list, &mut buf[..n as usize], line, code)
 }
 
 // The longest buffer that an entry can ask a read for.
@@ -122,7 +126,8 @@ fn fetch(
     trace_answers::fetched(line, code, o, buf)
 }
 
-fn bus(k: Record, b: BusEvent) -> Answered
+// By the names of docs/CALLS.md, as `bus_operation` has them.
+fn bus(k: Record, b: BusEvent) -> Answered<Reply<()>>
     ensures { calls.answered result ≡ calls.outcome k (bus_operation b) }
 {
     match b {

@@ -2,60 +2,44 @@
 
 #![tactic(auto)]
 
-ghost use Rattle.std.specs.Prelude.{◌≡◌, ◌≤◌, length};
+ghost use Rattle.std.specs.Prelude.{◌≡◌, ◌≤◌, length, IfSome};
 ghost use Rattle.endpoints.specs.Endpoints.{type_of};
 ghost use Rattle.trace_rules.specs.Arguments.{in_range, arg_at, two_at, direction_of, wanted_of, bus_of, flag_of};
 ghost use Rattle.trace_rules.specs.Packets.{held_in, packet_at};
 
 use board::Direction;
-use endpoints::{EndpointType, Wanted};
+use endpoints::EndpointType;
 use event_rules::BusEvent;
-use trace_rules::{Arg, Held, Number, Two};
+use trace_reader::TraceReader;
+use trace_rules::Packet;
 
-pub fn arg_at(s: &[u8], at: usize, most: u16) -> Arg
-    ensures { result ≡ arg_at s.now at most }
+#[tactic(auto, unfolding(trace_rules::specs::Arguments::arg_at))]
+pub fn arg_at(s: &[u8], at: usize, most: u16) -> Option<(u16, usize)>
+    ensures value { result ≡ arg_at s.now at most }
+    ensures within { IfSome result (λ r. (r.0 ≤ most) × (r.1 ≤ length s.now)) }
 {
-    in_range(trace_reader::number_from(s, at), most)
+    in_range(TraceReader::at(s, at).next(), most)
 }
 
-fn in_range(n: Number, most: u16) -> Arg
+fn in_range(n: Option<(u16, usize)>, most: u16) -> Option<(u16, usize)>
     ensures { result ≡ in_range most n }
 {
-    match n {
-        Number::Value(a, past) => {
-            if a <= most {
-                Arg::Got(a, past)
-            } else {
-                Arg::No
-            }
-        }
-        Number::Bad => Arg::No,
-    }
+    n.filter(|(a, _)| *a <= most)
 }
 
 // One reader goes from the first number to the second.
-pub fn two_at(s: &[u8], at: usize, m: u16, n: u16) -> Two
-    ensures { result ≡ two_at s.now at m n }
+#[tactic(auto, unfolding(trace_rules::specs::Arguments::two_at, trace_rules::specs::Arguments::arg_at, trace_rules::specs::Groups::place_after))]
+pub fn two_at(s: &[u8], at: usize, m: u16, n: u16) -> Option<(u16, u16, usize)>
+    ensures value { result ≡ two_at s.now at m n }
+    ensures within { IfSome result (λ r. (r.0 ≤ m) × (r.1 ≤ n) × (r.2 ≤ length s.now)) }
 {
-    let p = trace_reader::two_from(s, at);
-    let first = p.first;
-    let second = p.second;
-    match in_range(first, m) {
-        Arg::Got(a, _) => match in_range(second, n) {
-            Arg::Got(b, past) => Two::Both(a, b, past),
-            Arg::No => Two::Neither,
-        },
-        Arg::No => Two::Neither,
-    }
+    let mut r = TraceReader::at(s, at);
+    let (a, _) = in_range(r.next(), m)?;
+    let (b, past) = in_range(r.next(), n)?;
+    Some((a, b, past))
 }
 
-pub fn narrow(n: u16) -> u8
-    requires { n ≤ 255 }
-    ensures { result ≡ n }
-{
-    n as u8
-}
-
+// What a number stands for in a trace. Functions and no `From`: an impl would have to stand with the types, in crates that know nothing of traces.
 pub fn direction_of(n: u16) -> Direction
     ensures { result ≡ direction_of n }
 {
@@ -72,17 +56,17 @@ pub fn flag_of(n: u16) -> bool
     n == 1
 }
 
-pub fn wanted_of(n: u16) -> Wanted
+pub fn wanted_of(n: u16) -> Option<u8>
     requires { n ≤ 256 }
     ensures { result ≡ wanted_of n }
 {
     if n == 0 {
-        return Wanted::Any;
+        return None;
     }
-    Wanted::Number((n - 1) as u8)
+    Some((n - 1) as u8)
 }
 
-pub fn type_of(n: u16) -> EndpointType
+pub fn type_of(n: u32) -> EndpointType
     ensures { result ≡ type_of n }
 {
     match n {
@@ -104,22 +88,27 @@ pub fn bus_of(n: u16) -> BusEvent
 }
 
 // Endpoint, length, bytes. Form comes before meaning: a packet that is cut is bad whatever its endpoint.
-pub fn packet_at(s: &[u8], at: usize) -> Held
+#[tactic(auto, unfolding(trace_rules::specs::Packets::packet_at))]
+pub fn packet_at(s: &[u8], at: usize) -> Option<(Packet, usize)>
     ensures { result ≡ packet_at s.now at }
 {
-    match two_at(s, at, 255, 65535) {
-        Two::Both(e, n, start) => held_in(s, narrow(e), n as usize, start),
-        Two::Neither => Held::Cut,
-    }
+    let (endpoint, n, start) = two_at(s, at, 255, 65535)?;
+    held_in(s, endpoint as u8, usize::from(n), start)
 }
 
-// A packet of n bytes from start on.
-fn held_in(s: &[u8], e: u8, n: usize, start: usize) -> Held
+// A packet of n bytes from start on, with the place after it.
+#[tactic(auto, unfolding(trace_rules::specs::Packets::held_in))]
+fn held_in(s: &[u8], endpoint: u8, n: usize, start: usize) -> Option<(Packet, usize)>
     requires { start ≤ length s.now }
-    ensures { result ≡ held_in s.now e n start }
+    ensures { result ≡ held_in s.now endpoint n start }
 {
     if s.len() - start < n {
-        return Held::Cut;
+        return None;
     }
-    Held::Bytes(e, start, n, start + n)
+    let packet = Packet {
+        endpoint,
+        start,
+        len: n,
+    };
+    Some((packet, start + n))
 }

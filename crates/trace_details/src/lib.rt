@@ -10,10 +10,12 @@ ghost use Rattle.detail_rules.specs.DetailNumbers.{of_chip, shown_at, lengths_at
 
 use board::Direction;
 use control_state::ControlState;
+use csr::{Csr0l, Rxcsrl, Txcsrl};
 use endpoints::EndpointData;
 use record::{Flags, Record};
-use trace_text::wide_word;
+use stores::Control;
 
+// (No `Display`, for the reason at `put_decimal`. The list and its count: `stores_line` of detail_rules is over both.)
 pub fn stores_line(out: &mut [u8], list: &[u16], n: usize) -> usize
     requires { (3 * n ≤ length list.now) × (100 + 18 * n ≤ length out.old) }
     ensures wrote { Wrote out.old out.new 0 result (stores_line list.now n) }
@@ -30,11 +32,9 @@ fn put_stores(out: &mut [u8], at: usize, list: &[u16], n: usize) -> usize
     ensures wrote { Wrote out.old out.new at result (stores list.now n) }
     ensures upper_bound { result ≤ at + 18 * n }
 {
-    let mut i = 0usize;
     let mut m = at;
-    while i < n {
+    for i in 0..n {
         m = put_store(out, m, list[3 * i], list[3 * i + 1], list[3 * i + 2]);
-        i += 1;
     }
     m
 }
@@ -45,11 +45,11 @@ fn put_store(out: &mut [u8], at: usize, register: u16, endpoint: u16, value: u16
     ensures wrote { Wrote out.old out.new at result (store register endpoint value) }
     ensures upper_bound { result ≤ at + 18 }
 {
-    let a = trace_text::put_field(out, at, wide_word(register));
+    let a = trace_text::put_field(out, at, u32::from(register));
     let b = trace_text::put_text(out, a, b",");
-    let c = trace_text::put_decimal(out, b, wide_word(endpoint));
+    let c = trace_text::put_decimal(out, b, u32::from(endpoint));
     let d = trace_text::put_text(out, c, b",");
-    trace_text::put_decimal(out, d, wide_word(value))
+    trace_text::put_decimal(out, d, u32::from(value))
 }
 
 // The record's 96 numbers.
@@ -63,44 +63,29 @@ pub fn record_line(out: &mut [u8], k: Record) -> usize
     let endpoints = k.endpoints;
     let a = trace_text::put_text(out, 0, b"  record");
     let chip = of_chip(&w);
-    let b = put_numbers(out, a, &chip);
+    let b = trace_text::put_fields(out, a, &chip);
     let c = put_endpoints(out, b, &w, endpoints);
     let flags = of_flags(k.control_state, k.irq);
-    let d = put_numbers(out, c, &flags);
+    let d = trace_text::put_fields(out, c, &flags);
     trace_text::put_text(out, d, b"\n")
 }
 
 // The registers of the chip as a whole, and endpoint 0's own.
-fn of_chip(w: &[u16; 46]) -> [u32; 10]
+fn of_chip(w: &[u16; 46]) -> [u16; 10]
     ensures { result ≡ of_chip w.now }
 {
     [
-        wide_word(w[regs::FADDR]),
-        wide_word(w[regs::POWER]),
-        wide_word(w[regs::INDEX]),
-        wide_word(w[regs::INTRTXE]),
-        wide_word(w[regs::INTRRXE]),
-        wide_word(w[regs::INTRUSBE]),
-        wide_word(w[regs::INTRUSB]),
-        wide_word(w[regs::INTRTX]),
-        wide_word(w[regs::INTRRX]),
-        wide_word(csr_ops::csr0l_number(regs::read_csr0l(w))),
+        w[regs::FADDR],
+        w[regs::POWER],
+        w[regs::INDEX],
+        w[regs::INTRTXE],
+        w[regs::INTRRXE],
+        w[regs::INTRUSBE],
+        w[regs::INTRUSB],
+        w[regs::INTRTX],
+        w[regs::INTRRX],
+        Csr0l::read(w).number(),
     ]
-}
-
-// Each number of s as a field.
-fn put_numbers(out: &mut [u8], at: usize, s: &[u32]) -> usize
-    requires { at + 11 * length s.now ≤ length out.old }
-    ensures wrote { Wrote out.old out.new at result (fields s.now) }
-    ensures upper_bound { result ≤ at + 11 * length s.now }
-{
-    let mut i = 0usize;
-    let mut m = at;
-    while i < s.len() {
-        m = trace_text::put_field(out, m, s[i]);
-        i += 1;
-    }
-    m
 }
 
 fn put_endpoints(out: &mut [u8], at: usize, w: &[u16; 46], endpoints: [EndpointData; 6]) -> usize
@@ -108,11 +93,9 @@ fn put_endpoints(out: &mut [u8], at: usize, w: &[u16; 46], endpoints: [EndpointD
     ensures wrote { Wrote out.old out.new at result (fields (of_endpoints w.now endpoints 6)) }
     ensures upper_bound { result ≤ at + 858 }
 {
-    let mut i = 0usize;
     let mut m = at;
-    while i < 6 {
-        m = put_endpoint(out, m, w, endpoints[i], i as u16);
-        i += 1;
+    for e in 0..6 {
+        m = put_endpoint(out, m, w, endpoints[usize::from(e)], e);
     }
     m
 }
@@ -124,32 +107,33 @@ fn put_endpoint(out: &mut [u8], at: usize, w: &[u16; 46], d: EndpointData, e: u1
     ensures upper_bound { result ≤ at + 143 }
 {
     let registers = shown_at(w, e);
-    let a = put_numbers(out, at, &registers);
+    let a = trace_text::put_fields(out, at, &registers);
     let rest = rest_at(w, e, d);
-    put_numbers(out, a, &rest)
+    trace_text::put_fields(out, a, &rest)
 }
 
 // An endpoint's own registers, as they read with it selected. Endpoint 0 has none of them: its bits stand in CSR0L.
-fn shown_at(w: &[u16; 46], e: u16) -> [u32; 6]
+fn shown_at(w: &[u16; 46], e: u16) -> [u16; 6]
     ensures { result ≡ shown_at w.now e }
 {
     if e == 0 {
-        return [0u32; 6];
+        return [0; 6];
     }
     let tx = regs::side_at(w, e, Direction::In);
     let rx = regs::side_at(w, e, Direction::Out);
     [
-        wide_word(csr_ops::txcsrl_number(csr_ops::txcsrl_of(tx))),
-        wide_word(csr_ops::rxcsrl_number(csr_ops::rxcsrl_of(rx))),
-        wide_word(csr_ops::weight(tx.iso, 64)),
-        wide_word(csr_ops::weight(rx.iso, 64)),
-        wide_word(tx.maxp),
-        wide_word(rx.maxp),
+        Txcsrl::of(tx).number(),
+        Rxcsrl::of(rx).number(),
+        csr_ops::weight(tx.iso, 64),
+        csr_ops::weight(rx.iso, 64),
+        tx.maxp,
+        rx.maxp,
     ]
 }
 
 // The lengths that wait at an endpoint, and what allocation recorded of it.
-fn rest_at(w: &[u16; 46], e: u16, d: EndpointData) -> [u32; 7]
+#[tactic(auto, unfolding(detail_rules::specs::DetailNumbers::lengths_at, detail_rules::specs::DetailNumbers::of_data))]
+fn rest_at(w: &[u16; 46], e: u16, d: EndpointData) -> [u16; 7]
     ensures { result ≡ lengths_at w.now e ++ of_data d }
 {
     let tx = regs::side_at(w, e, Direction::In);
@@ -157,29 +141,30 @@ fn rest_at(w: &[u16; 46], e: u16, d: EndpointData) -> [u32; 7]
     let conf = d.ep_conf;
     let kind = conf.ep_type;
     [
-        wide_word(tx.len),
-        wide_word(rx.len),
-        endpoint_ops::type_number(kind) as u32,
-        wide_word(conf.tx_max_packet_size),
-        wide_word(conf.rx_max_packet_size),
-        wide_word(csr_ops::weight(d.used_tx, 1)),
-        wide_word(csr_ops::weight(d.used_rx, 1)),
+        tx.len,
+        rx.len,
+        u16::from(u8::from(kind)),
+        conf.tx_max_packet_size,
+        conf.rx_max_packet_size,
+        csr_ops::weight(d.used_tx, 1),
+        csr_ops::weight(d.used_rx, 1),
     ]
 }
 
 // The control state and the interrupt flags.
+#[tactic(auto, unfolding(detail_rules::specs::DetailNumbers::of_flags))]
 fn of_flags(c: ControlState, f: Flags) -> [u32; 8]
     ensures { result ≡ of_flags c f }
 {
     let state = c.state;
     [
-        control_state::number(state) as u32,
+        u32::from(u8::from(state)),
         c.tx_len,
-        wide_word(csr_ops::weight(f.reset, 1)),
-        wide_word(csr_ops::weight(f.suspend, 1)),
-        wide_word(csr_ops::weight(f.resume, 1)),
-        wide_word(csr_ops::weight(f.ep0, 1)),
-        wide_word(f.ep_tx),
-        wide_word(f.ep_rx),
+        u32::from(csr_ops::weight(f.reset, 1)),
+        u32::from(csr_ops::weight(f.suspend, 1)),
+        u32::from(csr_ops::weight(f.resume, 1)),
+        u32::from(csr_ops::weight(f.ep0, 1)),
+        u32::from(f.ep_tx),
+        u32::from(f.ep_rx),
     ]
 }

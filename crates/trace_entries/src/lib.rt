@@ -1,161 +1,131 @@
 // The entries of an event trace: a code, its arguments, each in its range (document 01, 'Event trace').
-// Every number goes through `trace_reader::number_from` or, of a pair, `two_from`. A packet stays in the trace: an entry holds its start and its length.
+// Every number goes through `TraceReader::next`, the two of a pair through one reader. A packet stays in the trace: an entry holds its start and its length.
 
 #![tactic(auto)]
 
-ghost use Rattle.std.specs.Prelude.{◌≡◌};
-ghost use Rattle.trace_rules.specs.Entries.{allocate_at, one_at, one_of, write_at, read_at, stall_at, is_stalled_at, arrival_at, bus_at, code_at, entry_at, code_of};
+ghost use Rattle.std.specs.Prelude.{◌≡◌, Some, None, MatchOption};
+ghost use Rattle.trace_rules.specs.Arguments.{arg_at};
+ghost use Rattle.trace_rules.specs.Packets.{packet_at};
+ghost use Rattle.trace_rules.specs.Entries.{allocate_at, read_at, stall_at, is_stalled_at, bus_at, code_at, entry_at, code_of};
 
-use trace_rules::{Arg, Entry, Held, Number, Parsed, Two};
+use trace_reader::TraceReader;
+use trace_rules::{Entry, Packet, Parsed};
 
 // What stands at a place of a trace.
+#[tactic(auto, unfolding(trace_rules::specs::Entries::entry_at))]
 pub fn entry_at(trace: &[u8], at: usize) -> Parsed
     ensures { result ≡ entry_at trace.now at }
 {
     if trace.len() <= at {
         return Parsed::End;
     }
-    match trace_reader::number_from(trace, at) {
-        Number::Value(code, past) => code_at(trace, code, past),
-        Number::Bad => Parsed::Bad,
+    let Some((code, past)) = TraceReader::at(trace, at).next() else {
+        return Parsed::Bad;
+    };
+    match code_at(trace, code, past) {
+        Some((e, next)) => Parsed::Found(e, next),
+        None => Parsed::Bad,
     }
 }
 
-// The entry with this code whose arguments begin at a place.
-fn code_at(s: &[u8], code: u16, at: usize) -> Parsed
+// The entry with this code whose arguments begin at a place, with the place after them.
+#[tactic(auto, unfolding(trace_rules::specs::Entries::code_at))]
+fn code_at(s: &[u8], code: u16, at: usize) -> Option<(Entry, usize)>
     ensures { result ≡ code_at s.now code at }
 {
     match code {
         1 => allocate_at(s, at),
-        2 => Parsed::Found(Entry::Init, at),
-        3 => Parsed::Found(Entry::Reset, at),
-        4 => one_at(s, 4, at),
-        5 => write_at(s, at),
+        2 => Some((Entry::Init, at)),
+        3 => Some((Entry::Reset, at)),
+        4 => one_at(s, at, Entry::Address),
+        5 => with_packet(s, at, Entry::Write),
         6 => read_at(s, at),
         7 => stall_at(s, at),
         8 => is_stalled_at(s, at),
-        9 => Parsed::Found(Entry::Poll, at),
-        10 => Parsed::Found(Entry::Interrupt, at),
-        11 => Parsed::Found(Entry::Enable, at),
-        12 => arrival_at(s, at),
-        13 => one_at(s, 13, at),
+        9 => Some((Entry::Poll, at)),
+        10 => Some((Entry::Interrupt, at)),
+        11 => Some((Entry::Enable, at)),
+        12 => with_packet(s, at, Entry::Arrival),
+        13 => one_at(s, at, Entry::Collect),
         14 => bus_at(s, at),
-        15 => Parsed::Found(Entry::SetupEnd, at),
-        16 => one_at(s, 16, at),
-        17 => one_at(s, 17, at),
-        _ => Parsed::Bad,
+        15 => Some((Entry::SetupEnd, at)),
+        16 => one_at(s, at, Entry::Underrun),
+        17 => one_at(s, at, Entry::Overrun),
+        _ => None,
     }
 }
 
-fn allocate_at(s: &[u8], at: usize) -> Parsed
+#[tactic(auto, unfolding(trace_rules::specs::Entries::allocate_at))]
+fn allocate_at(s: &[u8], at: usize) -> Option<(Entry, usize)>
     ensures { result ≡ allocate_at s.now at }
 {
-    match trace_arguments::two_at(s, at, 1, 256) {
-        Two::Both(d, w, mid) => match trace_arguments::two_at(s, mid, 3, 65535) {
-            Two::Both(t, n, past) => Parsed::Found(
-                Entry::Allocate(
-                    trace_arguments::direction_of(d),
-                    trace_arguments::wanted_of(w),
-                    trace_arguments::type_of(t),
-                    n,
-                ),
-                past,
-            ),
-            Two::Neither => Parsed::Bad,
-        },
-        Two::Neither => Parsed::Bad,
-    }
+    let (d, w, mid) = trace_arguments::two_at(s, at, 1, 256)?;
+    let (t, n, past) = trace_arguments::two_at(s, mid, 3, 65535)?;
+    let direction = trace_arguments::direction_of(d);
+    let wanted = trace_arguments::wanted_of(w);
+    let kind = trace_arguments::type_of(u32::from(t));
+    Some((Entry::Allocate(direction, wanted, kind, n), past))
 }
 
 // An entry with one argument, an address or an endpoint.
-fn one_at(s: &[u8], code: u16, at: usize) -> Parsed
-    ensures { result ≡ one_at (one_of code) s.now at }
+fn one_at<F: FnOnce(u8) -> Entry>(s: &[u8], at: usize, entry: F) -> Option<(Entry, usize)>
+    requires { F.IsAlwaysCallable entry }
+    ensures { MatchOption (arg_at s.now at 255) (result ≡ None) (λ r. (e : _) × F.post entry r.0 e × (result ≡ Some (e, r.1))) }
 {
-    match trace_arguments::arg_at(s, at, 255) {
-        Arg::Got(a, past) => Parsed::Found(one_of(code, trace_arguments::narrow(a)), past),
-        Arg::No => Parsed::Bad,
-    }
+    let (a, past) = trace_arguments::arg_at(s, at, 255)?;
+    Some((entry(a as u8), past))
 }
 
-fn one_of(code: u16, a: u8) -> Entry
-    ensures { result ≡ one_of code a }
+// An entry with a packet.
+fn with_packet<F: FnOnce(Packet) -> Entry>(s: &[u8], at: usize, entry: F) -> Option<(Entry, usize)>
+    requires { F.IsAlwaysCallable entry }
+    ensures { MatchOption (packet_at s.now at) (result ≡ None) (λ r. (e : _) × F.post entry r.0 e × (result ≡ Some (e, r.1))) }
 {
-    match code {
-        4 => Entry::Address(a),
-        13 => Entry::Collect(a),
-        16 => Entry::Underrun(a),
-        _ => Entry::Overrun(a),
-    }
+    let (p, past) = trace_arguments::packet_at(s, at)?;
+    Some((entry(p), past))
 }
 
-fn write_at(s: &[u8], at: usize) -> Parsed
-    ensures { result ≡ write_at s.now at }
-{
-    match trace_arguments::packet_at(s, at) {
-        Held::Bytes(e, start, n, past) => Parsed::Found(Entry::Write(e, start, n), past),
-        Held::Cut => Parsed::Bad,
-    }
-}
-
-fn read_at(s: &[u8], at: usize) -> Parsed
+#[tactic(auto, unfolding(trace_rules::specs::Entries::read_at))]
+fn read_at(s: &[u8], at: usize) -> Option<(Entry, usize)>
     ensures { result ≡ read_at s.now at }
 {
-    match trace_arguments::two_at(s, at, 255, 512) {
-        Two::Both(e, n, past) => Parsed::Found(Entry::Read(trace_arguments::narrow(e), n), past),
-        Two::Neither => Parsed::Bad,
-    }
+    let (e, n, past) = trace_arguments::two_at(s, at, 255, 512)?;
+    Some((Entry::Read(e as u8, n), past))
 }
 
-fn stall_at(s: &[u8], at: usize) -> Parsed
+#[tactic(auto, unfolding(trace_rules::specs::Entries::stall_at))]
+fn stall_at(s: &[u8], at: usize) -> Option<(Entry, usize)>
     ensures { result ≡ stall_at s.now at }
 {
-    match trace_arguments::two_at(s, at, 255, 1) {
-        Two::Both(e, d, mid) => match trace_arguments::arg_at(s, mid, 1) {
-            Arg::Got(a, past) => Parsed::Found(
-                Entry::Stall(
-                    trace_arguments::narrow(e),
-                    trace_arguments::direction_of(d),
-                    trace_arguments::flag_of(a),
-                ),
-                past,
-            ),
-            Arg::No => Parsed::Bad,
-        },
-        Two::Neither => Parsed::Bad,
-    }
+    let (e, d, mid) = trace_arguments::two_at(s, at, 255, 1)?;
+    let (a, past) = trace_arguments::arg_at(s, mid, 1)?;
+    let direction = trace_arguments::direction_of(d);
+    Some((
+        Entry::Stall(e as u8, direction, trace_arguments::flag_of(a)),
+        past,
+    ))
 }
 
-fn is_stalled_at(s: &[u8], at: usize) -> Parsed
+#[tactic(auto, unfolding(trace_rules::specs::Entries::is_stalled_at))]
+fn is_stalled_at(s: &[u8], at: usize) -> Option<(Entry, usize)>
     ensures { result ≡ is_stalled_at s.now at }
 {
-    match trace_arguments::two_at(s, at, 255, 1) {
-        Two::Both(e, d, past) => Parsed::Found(
-            Entry::IsStalled(trace_arguments::narrow(e), trace_arguments::direction_of(d)),
-            past,
-        ),
-        Two::Neither => Parsed::Bad,
-    }
+    let (e, d, past) = trace_arguments::two_at(s, at, 255, 1)?;
+    Some((
+        Entry::IsStalled(e as u8, trace_arguments::direction_of(d)),
+        past,
+    ))
 }
 
-fn arrival_at(s: &[u8], at: usize) -> Parsed
-    ensures { result ≡ arrival_at s.now at }
-{
-    match trace_arguments::packet_at(s, at) {
-        Held::Bytes(e, start, n, past) => Parsed::Found(Entry::Arrival(e, start, n), past),
-        Held::Cut => Parsed::Bad,
-    }
-}
-
-fn bus_at(s: &[u8], at: usize) -> Parsed
+#[tactic(auto, unfolding(trace_rules::specs::Entries::bus_at))]
+fn bus_at(s: &[u8], at: usize) -> Option<(Entry, usize)>
     ensures { result ≡ bus_at s.now at }
 {
-    match trace_arguments::arg_at(s, at, 2) {
-        Arg::Got(a, past) => Parsed::Found(Entry::Bus(trace_arguments::bus_of(a)), past),
-        Arg::No => Parsed::Bad,
-    }
+    let (a, past) = trace_arguments::arg_at(s, at, 2)?;
+    Some((Entry::Bus(trace_arguments::bus_of(a)), past))
 }
 
-// Document 01's code of an entry, which its line begins with.
+// Document 01's code of an entry, which its line begins with. (A case that holds values has no number that `as` could give.)
 pub fn code_of(e: Entry) -> u8
     ensures { result ≡ code_of e }
 {
@@ -164,14 +134,14 @@ pub fn code_of(e: Entry) -> u8
         Entry::Init => 2,
         Entry::Reset => 3,
         Entry::Address(_) => 4,
-        Entry::Write(_, _, _) => 5,
+        Entry::Write(_) => 5,
         Entry::Read(_, _) => 6,
         Entry::Stall(_, _, _) => 7,
         Entry::IsStalled(_, _) => 8,
         Entry::Poll => 9,
         Entry::Interrupt => 10,
         Entry::Enable => 11,
-        Entry::Arrival(_, _, _) => 12,
+        Entry::Arrival(_) => 12,
         Entry::Collect(_) => 13,
         Entry::Bus(_) => 14,
         Entry::SetupEnd => 15,

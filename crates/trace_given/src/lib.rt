@@ -6,16 +6,16 @@
 #![tactic(auto)]
 
 ghost use Rattle.std.specs.Prelude.{◌≡◌, ◌+◌, ◌≤◌, ◌<◌, get_or};
-ghost use Rattle.endpoints.specs.Endpoints.{type_of};
 ghost use Rattle.detail_rules.specs.Given.{numbers_of, long_at, word_at, truth_at, with_chip, zero_tx, zero_rx, with_zero, base_of, side_from, with_sides, file_of, data_of, datas_of, state_of, record_of};
 
 use board::{Board, Direction};
 use control_state::{ControlState, ControlStateEnum};
 use csr::Side;
-use endpoints::{EndpointConfig, EndpointData, EndpointType};
+use endpoints::{EndpointConfig, EndpointData};
 use record::{Flags, Record};
 use register_file::Regs;
 
+#[tactic(auto, unfolding(detail_rules::specs::Given::record_of, detail_rules::specs::Given::control_of, detail_rules::specs::Given::flags_of))]
 pub fn record_from(h: &[u8]) -> Record
     ensures { result ≡ record_of (numbers_of h.now) }
 {
@@ -49,11 +49,9 @@ fn words(h: &[u8]) -> [u16; 46]
     let mut w = [0u16; 46];
     put_chip(&mut w, h);
     put_zero(&mut w, h);
-    put_sides(&mut w, h, 1);
-    put_sides(&mut w, h, 2);
-    put_sides(&mut w, h, 3);
-    put_sides(&mut w, h, 4);
-    put_sides(&mut w, h, 5);
+    for e in 1..6 {
+        put_sides(&mut w, h, e);
+    }
     w
 }
 
@@ -72,6 +70,8 @@ fn put_chip(w: &mut [u16; 46], h: &[u8])
     w[regs::INTRRX] = word(h, 8);
 }
 
+// (The head is handed on as a slice: a struct that holds it would have to say in each contract that it is the same still.)
+#[tactic(auto, unfolding(detail_rules::specs::Given::word_at))]
 fn word(h: &[u8], i: usize) -> u16
     requires { i < 96 }
     ensures { result ≡ word_at (numbers_of h.now) i }
@@ -83,21 +83,23 @@ fn long(h: &[u8], i: usize) -> u32
     requires { i < 96 }
     ensures { result ≡ long_at (numbers_of h.now) i }
 {
-    let low = byte(h, 4 * i) + 256 * byte(h, 4 * i + 1);
-    low + 65536 * byte(h, 4 * i + 2) + 16777216 * byte(h, 4 * i + 3)
+    let at = 4 * i;
+    u32::from_le_bytes([
+        byte(h, at),
+        byte(h, at + 1),
+        byte(h, at + 2),
+        byte(h, at + 3),
+    ])
 }
 
 // Past the head's end stand zeros.
-fn byte(h: &[u8], at: usize) -> u32
-    ensures { (result ≡ get_or h.now at 0) × (result < 256) }
+fn byte(h: &[u8], at: usize) -> u8
+    ensures { result ≡ get_or h.now at 0 }
 {
-    if at < h.len() {
-        trace_text::wide(h[at])
-    } else {
-        0
-    }
+    h.get(at).copied().unwrap_or(0)
 }
 
+#[tactic(auto, unfolding(detail_rules::specs::Given::with_zero, register_file::specs::Registers::with_setupend))]
 fn put_zero(w: &mut [u16; 46], h: &[u8])
     ensures { w.new ≡ with_zero (numbers_of h.now) w.old }
 {
@@ -107,7 +109,8 @@ fn put_zero(w: &mut [u16; 46], h: &[u8])
     w[regs::SETUPEND] = csr_ops::weight(laws::has_bit(v, 4), 1);
 }
 
-// Endpoint 0: its bits stand in CSR0L.
+// Endpoint 0: its bits stand in CSR0L. Two functions, since only one of the sides has bits for a stall.
+#[tactic(auto, unfolding(detail_rules::specs::Given::zero_tx))]
 fn zero_tx(h: &[u8], v: u16) -> Side
     requires { v ≡ word_at (numbers_of h.now) 9 }
     ensures { result ≡ zero_tx (numbers_of h.now) }
@@ -123,6 +126,7 @@ fn zero_tx(h: &[u8], v: u16) -> Side
     }
 }
 
+#[tactic(auto, unfolding(detail_rules::specs::Given::zero_rx))]
 fn zero_rx(h: &[u8], v: u16) -> Side
     requires { v ≡ word_at (numbers_of h.now) 9 }
     ensures { result ≡ zero_rx (numbers_of h.now) }
@@ -138,11 +142,12 @@ fn zero_rx(h: &[u8], v: u16) -> Side
     }
 }
 
+#[tactic(auto, unfolding(detail_rules::specs::Given::with_sides))]
 fn put_sides(w: &mut [u16; 46], h: &[u8], e: u16)
     requires { e < 6 }
     ensures { w.new ≡ with_sides (numbers_of h.now) e w.old }
 {
-    let b = base(e as usize);
+    let b = base(usize::from(e));
     regs::put_side(w, e, Direction::In, side(h, b, 4));
     regs::put_side(w, e, Direction::Out, side(h, b + 1, 5));
 }
@@ -157,6 +162,7 @@ fn base(e: usize) -> usize
 
 // A side of another endpoint, from where its TXCSRL or RXCSRL stands: every other number of it is the other side's. SentStall follows
 // SendStall, whose place the two registers do not share.
+#[tactic(auto, unfolding(detail_rules::specs::Given::side_from))]
 fn side(h: &[u8], i: usize, stall: u8) -> Side
     requires { (i + 6 < 96) × (stall + 1 < 16) }
     ensures { result ≡ side_from (numbers_of h.now) i stall }
@@ -173,24 +179,20 @@ fn side(h: &[u8], i: usize, stall: u8) -> Side
     }
 }
 
+#[tactic(auto, unfolding(detail_rules::specs::Given::datas_of))]
 fn endpoints(h: &[u8]) -> [EndpointData; 6]
     ensures { result ≡ datas_of (numbers_of h.now) }
 {
-    let a = endpoint(h, 0);
-    let b = endpoint(h, 1);
-    let c = endpoint(h, 2);
-    let d = endpoint(h, 3);
-    let e = endpoint(h, 4);
-    let f = endpoint(h, 5);
-    [a, b, c, d, e, f]
+    std::array::from_fn(|e| endpoint(h, e))
 }
 
+#[tactic(auto, unfolding(detail_rules::specs::Given::data_of))]
 fn endpoint(h: &[u8], e: usize) -> EndpointData
     requires { e < 6 }
     ensures { result ≡ data_of (numbers_of h.now) e }
 {
     let b = base(e);
-    let t = type_from(long(h, b + 8));
+    let t = trace_arguments::type_of(long(h, b + 8));
     EndpointData {
         ep_conf: EndpointConfig {
             ep_type: t,
@@ -202,17 +204,7 @@ fn endpoint(h: &[u8], e: usize) -> EndpointData
     }
 }
 
-fn type_from(n: u32) -> EndpointType
-    ensures { result ≡ type_of n }
-{
-    match n {
-        0 => EndpointType::Control,
-        1 => EndpointType::Isochronous,
-        2 => EndpointType::Bulk,
-        _ => EndpointType::Interrupt,
-    }
-}
-
+#[tactic(auto, unfolding(detail_rules::specs::Given::truth_at))]
 fn truth(h: &[u8], i: usize) -> bool
     requires { i < 96 }
     ensures { result ≡ truth_at (numbers_of h.now) i }
@@ -220,6 +212,7 @@ fn truth(h: &[u8], i: usize) -> bool
     long(h, i) == 1
 }
 
+// A function and no `From`: an impl would have to stand with the type, which knows nothing of reports.
 fn state_from(n: u32) -> ControlStateEnum
     ensures { result ≡ state_of n }
 {

@@ -18,7 +18,7 @@ use Rattle.trace_rules.proofs.Appended.{front}
 use Rattle.report_rules.specs.Act.{State, state, operation, acted}
 use Rattle.report_rules.specs.declared.Came.TheVariants.{Line}
 use Rattle.report_rules.specs.declared.Stepped.{Stepped}
-use Rattle.report_rules.specs.Report.{line_of, report_by, report_from, rest_of, report_for, StepOutcome, stepped, step_by, step_of}
+use Rattle.report_rules.specs.Report.{line_of, nothing, report_by, report_from, rest_with, report_with, report_for, StepOutcome, stepped, step_by, step_of}
 use Rattle.report_rules.specs.Runs.{Took, Reached, begins, goes}
 use Rattle.report_rules.proofs.Act.{code_is}
 use Rattle.report_rules.proofs.Whole.{line_not_end, line_not_bad}
@@ -38,26 +38,26 @@ module _ (s : List ℕ) (e : Entry) (x : State) where
   prints = λ i. line (code_is s e x.fifo x.list i ∷ (acted s e x).reply ∷ (acted s e x).values)
 
 -- The report is the lines of the trace's operations, and the last line.
-reports : (m : ℕ) (s : List ℕ) (at n : ℕ) (x : State) → report_from m s at n x ≡ lines_of x (operations_from s (entries_from m s at) x) ++ last_from m s at n
+reports : (m : ℕ) (s : List ℕ) (at n : ℕ) (x : State) → report_from nothing m s at n x ≡ lines_of x (operations_from s (entries_from m s at) x) ++ last_from m s at n
 unfolding report_from entries_from last_from operations_from lines_of
 reports zero s at n x = refl
 reports (suc m) s at n x = go (entry_at s at) (λ past y. reports m s past (suc n) y)
   where
-    go : (p : Parsed) → ((past : ℕ) (y : State) → report_from m s past (suc n) y ≡ lines_of y (operations_from s (entries_from m s past) y) ++ last_from m s past (suc n))
-        → report_by (λ past y. report_from m s past (suc n) y) s at n x p
+    go : (p : Parsed) → ((past : ℕ) (y : State) → report_from nothing m s past (suc n) y ≡ lines_of y (operations_from s (entries_from m s past) y) ++ last_from m s past (suc n))
+        → report_by nothing (λ past y. report_from nothing m s past (suc n) y) s at n x p
         ≡ lines_of x (operations_from s (entries_by (λ past. entries_from m s past) p) x) ++ last_by (λ past. last_from m s past (suc n)) at n p
     go (Found e past) rec =
-        (λ i. prints s e x i ++ report_from m s past (suc n) (leads_on s e x i))
+        (λ i. prints s e x i ++ report_from nothing m s past (suc n) (leads_on s e x i))
         ∙ ap (λ (t : List ℕ). line_for x (its s e x) ++ t) (rec past (after x (its s e x)))
         ∙ sym (append_assoc (line_for x (its s e x)) (lines_of (after x (its s e x)) (operations_from s (entries_from m s past) (after x (its s e x)))) (last_from m s past (suc n)))
     go End rec = refl
     go Bad rec = refl
 
 pub report_is : (x : State) (s : List ℕ) → length s ≤ 65536 → report_for x s ≡ header ++ (lines_of x (operations_of x s) ++ last_of s)
-unfolding report_for rest_of entries_of last_of
+unfolding report_with rest_with entries_of last_of
 report_is x s short =
     let all : length s - 0 ≡ length s = omega arith in
-    rw (le-leb _ _ short) (ap (λ (m : ℕ). header ++ report_from (suc m) s 0 0 x) all ∙ ap (λ (t : List ℕ). header ++ t) (reports (suc (length s)) s 0 0 x))
+    rw (le-leb _ _ short) (ap (λ (m : ℕ). header ++ report_from nothing (suc m) s 0 0 x) all ∙ ap (λ (t : List ℕ). header ++ t) (reports (suc (length s)) s 0 0 x))
 
 -- the record that operations lead to, and their lines, one list after another
 records : (x : State) (os : List calls.Op) → (foldl after x os).«record» ≡ foldl calls.step x.«record» os

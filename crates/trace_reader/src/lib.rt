@@ -1,120 +1,61 @@
 // Numbers of an event trace, and the reader that keeps the place (document 01, 'Event trace').
-// Whatever reads a number of a trace reads it by `number_from` or `two_from`: there is no second reader.
+// Whatever reads a number of a trace reads it by the reader's `next`: there is no second reader.
 
 #![tactic(auto)]
 
-ghost use Rattle.std.specs.Prelude.{◌≡◌, ◌<◌};
+ghost use Rattle.std.specs.Prelude.{◌≡◌};
 ghost use Rattle.trace_rules.specs.Groups.{number_at, place_after};
 
-use trace_rules::Number;
-
-fn wide(x: u8) -> u16
-    ensures { (result ≡ x) × (result < 256) }
-{
-    x as u16
-}
-
+// A number with the place after it, or none: cut short, not in the shortest form, or over 65,535.
 // Seven bits a group, low group first, the high bit set on all but the last. A last group of 0 could be left out, and a third one
 // over 3 makes more than 65,535.
-fn number_at(s: &[u8], at: usize) -> Number
+#[tactic(auto, unfolding(trace_rules::specs::Groups::number_at, trace_rules::specs::Groups::first, trace_rules::specs::Groups::second))]
+fn number_at(s: &[u8], at: usize) -> Option<(u16, usize)>
     ensures { result ≡ number_at s.now at }
 {
-    if s.len() <= at {
-        return Number::Bad;
-    }
-    let a = wide(s[at]);
+    let a = u16::from(*s.get(at)?);
     let i = at + 1;
     if a < 128 {
-        return Number::Value(a, i);
+        return Some((a, i));
     }
-    if s.len() <= i {
-        return Number::Bad;
-    }
-    let b = wide(s[i]);
+    let b = u16::from(*s.get(i)?);
     let j = i + 1;
+    if b == 0 {
+        return None;
+    }
     if b < 128 {
-        if b == 0 {
-            return Number::Bad;
-        }
-        return Number::Value(a - 128 + b * 128, j);
+        return Some((a - 128 + b * 128, j));
     }
-    if s.len() <= j {
-        return Number::Bad;
+    let c = u16::from(*s.get(j)?);
+    if c == 0 || 3 < c {
+        return None;
     }
-    let c = wide(s[j]);
-    if c == 0 {
-        return Number::Bad;
-    }
-    if 3 < c {
-        return Number::Bad;
-    }
-    Number::Value(a - 128 + (b - 128) * 128 + c * 16384, j + 1)
+    Some((a - 128 + (b - 128) * 128 + c * 16384, j + 1))
 }
 
-// The place after the number at a place; that place itself where there is none.
-fn place_after(s: &[u8], at: usize) -> usize
-    ensures { result ≡ place_after s.now at }
-{
-    match number_at(s, at) {
-        Number::Value(_, past) => past,
-        Number::Bad => at,
-    }
-}
-
-// Document 01: "A reader over the lent bytes keeps the place". Few thin functions over `number_at`, which is covered.
+// Document 01: "A reader over the lent bytes keeps the place".
 #[derive(Clone, Copy)]
 pub struct TraceReader<'a> {
     pub src: &'a [u8],
     pub at: usize,
 }
 
-pub fn reader_at<'a>(src: &'a [u8], at: usize) -> TraceReader<'a>
-    ensures { (result.src ≡ src.entry) × (result.at ≡ at) }
-{
-    TraceReader { src, at }
-}
+impl<'a> TraceReader<'a> {
+    pub fn at(src: &'a [u8], at: usize) -> TraceReader<'a>
+        ensures { (result.src ≡ src.entry) × (result.at ≡ at) }
+    {
+        TraceReader { src, at }
+    }
 
-// The number at the reader's place.
-pub fn next<'a>(r: TraceReader<'a>) -> Number
-    ensures { result ≡ number_at r.entry.src.now r.entry.at }
-{
-    number_at(r.src, r.at)
-}
-
-// The reader past the number that `next` gives.
-pub fn advance<'a>(r: TraceReader<'a>) -> TraceReader<'a>
-    ensures { (result.src ≡ r.entry.src) × (result.at ≡ place_after r.entry.src.now r.entry.at) }
-{
-    let at = place_after(r.src, r.at);
-    TraceReader { src: r.src, at }
-}
-
-// The number at a place of a trace, by the reader: who calls it meets no struct that holds a slice.
-pub fn number_from(s: &[u8], at: usize) -> Number
-    ensures { result ≡ number_at s.now at }
-{
-    next(reader_at(s, at))
-}
-
-// Two numbers in a row. Where the first is none, so is the second.
-#[derive(Clone, Copy)]
-pub struct Pair {
-    pub first: Number,
-    pub second: Number,
-}
-
-fn in_a_row(first: Number, second: Number) -> Pair
-    ensures { (result.first ≡ first) × (result.second ≡ second) }
-{
-    Pair { first, second }
-}
-
-// Two numbers from a place on, by one reader, which goes from the first to the second.
-pub fn two_from(s: &[u8], at: usize) -> Pair
-    ensures { (result.first ≡ number_at s.now at) × (result.second ≡ number_at s.now (place_after s.now at)) }
-{
-    let r = reader_at(s, at);
-    let a = next(r);
-    let b = next(advance(r));
-    in_a_row(a, b)
+    // The number at the reader's place, with the place after it, where the reader is then; where there is none it stays.
+    #[tactic(auto, unfolding(trace_rules::specs::Groups::place_after))]
+    pub fn next(&mut self) -> Option<(u16, usize)>
+        ensures number { result ≡ number_at self.old.src.now self.old.at }
+        ensures moved { self.new.at ≡ place_after self.old.src.now self.old.at }
+        ensures kept { self.new.src ≡ self.old.src }
+    {
+        let (n, past) = number_at(self.src, self.at)?;
+        self.at = past;
+        Some((n, past))
+    }
 }

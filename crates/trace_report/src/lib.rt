@@ -2,18 +2,32 @@
 
 #![tactic(auto)]
 
-ghost use Rattle.std.specs.Prelude.{[], ◌∷◌, ◌+◌, ◌*◌, ◌≤◌, length};
+ghost use Rattle.std.specs.Prelude.{[], ◌∷◌, ◌+◌, ◌*◌, ◌≤◌, map, length};
 ghost use Rattle.trace_rules.specs.Text.{Wrote};
 ghost use Rattle.trace_rules.specs.Lines.{numbers, line, header, last_line};
 
+use trace_text::Shown;
+
 // An entry's line begins with its code and reply.
+// (No `Display`, for the reason at `put_decimal`; no struct of the line and its code, for the reason at the head of trace_text.)
 fn begin(out: &mut [u8], code: u8, reply: u8) -> usize
-    requires { 100 ≤ length out.old }
+    requires { 21 ≤ length out.old }
     ensures wrote { Wrote out.old out.new 0 result (numbers (code ∷ reply ∷ [])) }
     ensures upper_bound { result ≤ 21 }
 {
-    let m = trace_text::put_decimal(out, 0, trace_text::wide(code));
-    trace_text::put_field(out, m, trace_text::wide(reply))
+    let m = trace_text::put_decimal(out, 0, u32::from(code));
+    trace_text::put_field(out, m, u32::from(reply))
+}
+
+// An entry's line with these values.
+fn numbers_line<T: Shown>(out: &mut [u8], code: u8, reply: u8, values: &[T]) -> usize
+    requires { 33 + T.most * length values.now ≤ length out.old }
+    ensures wrote { Wrote out.old out.new 0 result (line (code ∷ reply ∷ map T.value values.now)) }
+    ensures upper_bound { result ≤ 22 + T.most * length values.now }
+{
+    let a = begin(out, code, reply);
+    let end = trace_text::put_fields(out, a, values);
+    trace_text::put(out, end, 10)
 }
 
 // The line of an entry that has no values: refused, or done with none.
@@ -22,8 +36,8 @@ pub fn reply_line(out: &mut [u8], code: u8, reply: u8) -> usize
     ensures wrote { Wrote out.old out.new 0 result (line (code ∷ reply ∷ [])) }
     ensures upper_bound { result ≤ 100 }
 {
-    let end = begin(out, code, reply);
-    trace_text::put(out, end, 10)
+    let values: [u32; 0] = [];
+    numbers_line(out, code, reply, &values)
 }
 
 // One value.
@@ -32,12 +46,10 @@ pub fn value_line(out: &mut [u8], code: u8, reply: u8, value: u32) -> usize
     ensures wrote { Wrote out.old out.new 0 result (line (code ∷ reply ∷ value ∷ [])) }
     ensures upper_bound { result ≤ 100 }
 {
-    let a = begin(out, code, reply);
-    let b = trace_text::put_field(out, a, value);
-    trace_text::put(out, b, 10)
+    numbers_line(out, code, reply, &[value])
 }
 
-// A value, and three masks.
+// A value, and three masks. (Not by `numbers_line`: the must-fail edit trace_text/masks_order is on `put_three`, which nothing else calls.)
 pub fn masks_line(out: &mut [u8], code: u8, reply: u8, value: u32, a: u32, b: u32, c: u32) -> usize
     requires { 100 ≤ length out.old }
     ensures wrote { Wrote out.old out.new 0 result (line (code ∷ reply ∷ value ∷ a ∷ b ∷ c ∷ [])) }
@@ -55,12 +67,10 @@ pub fn bytes_line(out: &mut [u8], code: u8, reply: u8, s: &[u8]) -> usize
     ensures wrote { Wrote out.old out.new 0 result (line (code ∷ reply ∷ s.now)) }
     ensures upper_bound { result ≤ 100 + 4 * length s.now }
 {
-    let a = begin(out, code, reply);
-    let b = trace_text::put_fields(out, a, s);
-    trace_text::put(out, b, 10)
+    numbers_line(out, code, reply, s)
 }
 
-// A count, and then each byte of s.
+// A count, and then each byte of s. (Not by `numbers_line`: its values are one slice of one type, and without a heap the two make none.)
 pub fn counted_line(out: &mut [u8], code: u8, reply: u8, count: u32, s: &[u8]) -> usize
     requires { 100 + 4 * length s.now ≤ length out.old }
     ensures wrote { Wrote out.old out.new 0 result (line (code ∷ reply ∷ count ∷ s.now)) }
@@ -82,6 +92,7 @@ pub fn header_line(out: &mut [u8]) -> usize
 }
 
 // The last line of a report: a word and a number.
+// (No enum of End and Bad: `last_line` of trace_rules, and so each clause that names it, is over the word and the number.)
 pub fn last_line(out: &mut [u8], word: &[u8; 3], n: u32) -> usize
     requires { 100 ≤ length out.old }
     ensures wrote { Wrote out.old out.new 0 result (last_line word.now n) }

@@ -64,6 +64,8 @@ fn write_whole<W: Write>(to: &mut W, bytes: &[u8]) -> io::Result<()>
 // It has moved also where the write failed.
 // A writer whose bytes are known has then got just these, and at an error a front part of what the report has from there on (`left`). What a call
 // of the system writes no contract can say.
+// (A struct of the trace, the record and the first FIFO memory, which go to three functions, is no plainer: of one that holds lent slices an `ensures`
+// has to say `report.entry.trace.now` for `trace.now`, and so on for each of the three.)
 fn put<W: Write>(
     to: &mut W,
     trace: &[u8],
@@ -71,19 +73,19 @@ fn put<W: Write>(
     first: &[u8; 1664],
     done: &mut usize,
     line: &[u8],
-    len: usize,
 ) -> io::Result<()>
-    requires { (len ≤ length line.now) × (done.old + len ≤ 1000000000) × Has (beginning k first.now) trace.now done.old (take len line.now) }
-    ensures place { done.new ≡ done.old + len }
-    ensures bytes { OnOk result (Appends (W.contents to.old) (W.contents to.new) (take len line.now)) }
+    requires { (done.old + length line.now ≤ 1000000000) × Has (beginning k first.now) trace.now done.old line.now }
+    ensures place { done.new ≡ done.old + length line.now }
+    ensures bytes { OnOk result (Appends (W.contents to.old) (W.contents to.new) line.now) }
     ensures told { OnOk result (Told (beginning k first.now) trace.now (W.contents to.old) (W.contents to.new) done.old done.new) }
     ensures left { OnErr result (LeftAt (beginning k first.now) trace.now (W.contents to.old) (W.contents to.new) done.old) }
 {
-    *done += len;
-    write_whole(to, &line[..len])
+    *done += line.len();
+    write_whole(to, line)
 }
 
 // The last line, a word and a number: it ends the report from the record k and the FIFO memory that stood there at first.
+// (`OnOk result (Appends ..)` stands in each clause as it is: two words of std, and what was appended differs.)
 fn put_last<W: Write>(
     to: &mut W,
     trace: &[u8],
@@ -101,7 +103,7 @@ fn put_last<W: Write>(
     ensures left { OnErr result (LeftAt (beginning k first.now) trace.now (W.contents to.old) (W.contents to.new) done.old) }
 {
     let len = trace_report::last_line(line, word, n);
-    put(to, trace, k, first, done, line, len)
+    put(to, trace, k, first, done, &line[..len])
 }
 
 // A line under an entry's line, only where it is asked for: the entry's stores, or the record after it.
@@ -112,15 +114,15 @@ fn put_under<W: Write>(
     stores: usize,
     k: Record,
     line: &[u8],
-    len: usize,
 ) -> io::Result<()>
-    requires { (detail ≡ true) × (len ≤ length line.now) × Under list.now stores k (take len line.now) }
-    ensures { OnOk result (Appends (W.contents to.old) (W.contents to.new) (take len line.now)) }
+    requires { (detail ≡ true) × Under list.now stores k line.now }
+    ensures { OnOk result (Appends (W.contents to.old) (W.contents to.new) line.now) }
 {
-    to.write_all(&line[..len])
+    to.write_all(line)
 }
 
-// Both lines, for comparing with the original. The list holds 128 stores.
+// Both lines, for comparing with the original, where they are asked for. The list holds 128 stores. (`detail` is no closure and no type of
+// what stands under a line: what an error leaves, `left`, is told without detail alone, so that a clause would have to ask which it is.)
 fn put_details<W: Write>(
     to: &mut W,
     detail: bool,
@@ -136,15 +138,16 @@ fn put_details<W: Write>(
     if !detail {
         return Ok(());
     }
-    let n = trace_text::least(stores, 128);
+    let n = stores.min(128);
     let a = trace_details::stores_line(line, list, n);
-    put_under(to, detail, list, n, k, line, a)?;
+    put_under(to, detail, list, n, k, &line[..a])?;
     let b = trace_details::record_line(line, k);
-    put_under(to, detail, list, n, k, line, b)
+    put_under(to, detail, list, n, k, &line[..b])
 }
 
 // The entries of a trace that is not too long, each with its line, and the last line. The header is written. After an error the place stands behind the
 // last line of the report that was begun.
+// (No Iterator over the entries: a step changes the record and what is lent, all of which it would have to hold.)
 fn put_entries<W: Write>(
     to: &mut W,
     trace: &[u8],
@@ -167,10 +170,9 @@ fn put_entries<W: Write>(
     let mut count: u32 = 0;
     loop {
         let r = trace_step::step(trace, at, k, &mut fifo, &mut list, &mut line);
-        let c = r.came;
-        match c {
+        match r.came {
             Came::Line(len, past) => {
-                put(to, trace, start, &first, done, &line, len)?;
+                put(to, trace, start, &first, done, &line[..len])?;
                 k = r.record;
                 put_details(to, detail, &list, r.stores, k, &mut line)?;
                 at = past;
@@ -203,7 +205,7 @@ pub fn put_report<W: Write>(
     let mut line = line_buffer();
     let mut done: usize = 0;
     let len = trace_report::header_line(&mut line);
-    put(to, trace, start, &first, &mut done, &line, len)?;
+    put(to, trace, start, &first, &mut done, &line[..len])?;
     if 65536 < trace.len() {
         put_last(
             to, trace, start, &first, &mut done, &mut line, b"bad", 65536,

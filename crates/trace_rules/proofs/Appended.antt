@@ -2,14 +2,17 @@
 -- Assumes nothing.
 use Prim.Native.Nat.{ℕ, suc, ◌+◌, ◌*◌, ◌/◌, ◌%◌, ◌^◌, ◌≤◌, ◌<◌}
 use native.Mathlib.Omega.{arith}
-use native.Mathlib.Nat.{add-zero}
+use native.Mathlib.Nat.{add-zero, mul-suc}
 use native.Mathlib.Numerals.{add-one}
 use mathlib.Core.Path.{◌≡◌, refl, sym, ap, ◌∙◌}
 use mathlib.Core.List.{List, [], ◌∷◌, ◌++◌, append-nil, append_assoc}
 use lib.ListN.{length, set, get_or, take, drop, length-append}
-use lib.Seq.{sets, length-sets, sets-eq, take-suc, take_all, take-append_seam}
+use borrow.Rule.Slice.PartMut.{put_mid}
+use Rattle.std.specs.Prelude.{map}
+use Rattle.std.proofs.lemmas.List.{map-append, map-id, take_more}
+use lib.Seq.{sets, length-sets, sets-eq, drop-drop, take-append_seam}
 use Rattle.trace_rules.specs.Text.{Wrote, decimal, field, fields}
-use Rattle.trace_rules.proofs.Decimal.{one_digit, more_digits, length_3, length_9}
+use Rattle.trace_rules.proofs.Decimal.{one_digit, more_digits, length_3, length_5, length_9, length_10}
 
 sets_append : (l : List ℕ) (i : ℕ) (xs ys : List ℕ) → sets (sets l i xs) (i + length xs) ys ≡ sets l i (xs ++ ys)
 sets_append l i [] ys = ap (λ (k : ℕ). sets l k ys) (add-zero i)
@@ -59,38 +62,46 @@ pub one_field : (x : ℕ) → fields (x ∷ []) ≡ field x
 unfolding fields
 one_field x = append-nil (field x)
 
-short_field : (x : ℕ) → x < 256 → length (field x) ≤ 4
+pub short_field : (x : ℕ) → x < 256 → length (field x) ≤ 4
 unfolding field
 short_field x h = omega (arith, length_3 x (omega arith))
 
--- the loop of `put_fields`: none yet, one byte more, all of them
-pub fields_none : {a : List ℕ} {at : ℕ} (s : List ℕ) → Wrote a a at at (fields (take 0 s))
-unfolding fields
-fields_none s = record { count = omega arith; bytes = refl }
+pub word_field : (x : ℕ) → x < 2 ^ 16 → length (field x) ≤ 6
+unfolding field
+word_field x h = omega (arith, length_5 x (omega arith))
 
-pub fields_more : {a b c : List ℕ} {at m r : ℕ} (s : List ℕ) (i n : ℕ) → i < length s → n ≡ get_or s i 0
-    → Wrote a b at m (fields (take i s)) → Wrote b c m r (field n) → Wrote a c at r (fields (take (i + 1) s))
-fields_more s i n h e v w =
-    said (ap (λ (x : ℕ). fields (take i s) ++ field x) e ∙ ap (λ (l : List ℕ). fields (take i s) ++ l) (sym (one_field (get_or s i 0)))
-    ∙ sym (fields_append (take i s) (get_or s i 0 ∷ [])) ∙ ap fields (sym (take-suc s i 0 h) ∙ ap (λ (k : ℕ). take k s) (sym (add-one i))))
-    (then v w)
+pub long_field : (x : ℕ) → x < 2 ^ 32 → length (field x) ≤ 11
+unfolding field
+long_field x h = omega (arith, length_10 x (omega arith))
 
-pub fields_most : {b c : List ℕ} {m r : ℕ} (n at i : ℕ) → n < 256 → Wrote b c m r (field n) → m ≤ at + 4 * i → r ≤ at + 4 * (i + 1)
-fields_most n at i h w l = omega (arith, w.count, short_field n h)
+-- nothing yet
+pub nothing : {a : List ℕ} {at : ℕ} → Wrote a a at at []
+nothing = record { count = omega arith; bytes = refl }
 
-pub fields_all : {a b : List ℕ} {at m : ℕ} (s : List ℕ) (i : ℕ) → i ≤ length s → length s ≤ i → Wrote a b at m (fields (take i s)) → Wrote a b at m (fields s)
-fields_all s i h l w = said (ap fields (take_all i s l)) w
+-- the loop of `put_fields`: one more, which shows the number n, and where it ends
+pub fields_more : {A : Type 0} {a b c : List ℕ} {at m r : ℕ} (f : A → ℕ) (s : List A) (i n : ℕ) (x : A) → i < length s → x ≡ get_or s i x → n ≡ f x
+    → Wrote a b at m (fields (map f (take i s))) → Wrote b c m r (field n) → Wrote a c at r (fields (map f (take (i + 1) s)))
+fields_more f s i n x h is e v w =
+    let more : map f (take (i + 1) s) ≡ map f (take i s) ++ (n ∷ []) =
+    ap (map f) (take_more s i x h ∙ ap (λ (y : _). take i s ++ (y ∷ [])) (sym is)) ∙ map-append f (take i s) (x ∷ [])
+    ∙ ap (λ (k : ℕ). map f (take i s) ++ (k ∷ [])) (sym e) in
+    said (ap (λ (l : List ℕ). fields (map f (take i s)) ++ l) (sym (one_field n)) ∙ sym (fields_append (map f (take i s)) (n ∷ [])) ∙ ap fields (sym more)) (then v w)
 
--- the loop of `put_text`
-pub text_none : {a : List ℕ} {at : ℕ} (s : List ℕ) → Wrote a a at at (take 0 s)
-text_none s = record { count = omega arith; bytes = refl }
+pub fields_most : {b c : List ℕ} {m r : ℕ} (most n at i : ℕ) → length (field n) ≤ most → Wrote b c m r (field n) → m ≤ at + most * i → r ≤ at + most * (i + 1)
+fields_most most n at i h w l = let e : most * (i + 1) ≡ most * i + most = rw (add-one) (mul-suc most i) in omega (arith, w.count)
 
-pub text_more : {a b c : List ℕ} {at m r : ℕ} (s : List ℕ) (i : ℕ) → i < length s
-    → Wrote a b at m (take i s) → Wrote b c m r (get_or s i 0 ∷ []) → Wrote a c at r (take (i + 1) s)
-text_more s i h v w = said (sym (take-suc s i 0 h) ∙ ap (λ (k : ℕ). take k s) (sym (add-one i))) (then v w)
+-- numbers that are shown as they are
+pub as_they_are : {a b : List ℕ} {at r : ℕ} (s : List ℕ) → Wrote a b at r (fields (map (λ (x : ℕ). x) s)) → Wrote a b at r (fields s)
+as_they_are s w = said (ap fields (map-id s)) w
 
-pub text_all : {a b : List ℕ} {at m : ℕ} (s : List ℕ) (i : ℕ) → length s ≤ i → Wrote a b at m (take i s) → Wrote a b at m s
-text_all s i l w = said (take_all i s l) w
+-- `put_text`: the part of the buffer that holds s now
+pub text_put : (l s t : List ℕ) (at k : ℕ) → t ≡ s → k ≡ length s → at + length s ≤ length l → Wrote l (put_mid at k l t) at (at + length s) s
+text_put l s t at k e n h = record {
+  count = refl;
+  bytes =
+      (λ i. take at l ++ (e i ++ (drop-drop k at l ∙ ap (λ (m : ℕ). drop (at + m) l) n) i)) ∙ sym (append_assoc (take at l) s (drop (at + length s) l))
+      ∙ sym (sets-eq s l at h);
+}
 
 pub three_fields : {a b c d : List ℕ} {at i j r : ℕ} (x y z : ℕ) → Wrote a b at i (field x) → Wrote b c i j (field y) → Wrote c d j r (field z)
     → Wrote a d at r (fields (x ∷ y ∷ z ∷ []))

@@ -53,9 +53,17 @@ pub length_3 : (n : ℕ) → n < 1000 → length (decimal n) ≤ 3
 unfolding decimal
 length_3 n h = at_most (suc n) 2 n h
 
+pub length_5 : (n : ℕ) → n < 100000 → length (decimal n) ≤ 5
+unfolding decimal
+length_5 n h = at_most (suc n) 4 n h
+
 pub length_9 : (n : ℕ) → n < 1000000000 → length (decimal n) ≤ 9
 unfolding decimal
 length_9 n h = at_most (suc n) 8 n h
+
+pub length_10 : (n : ℕ) → n < 10000000000 → length (decimal n) ≤ 10
+unfolding decimal
+length_10 n h = at_most (suc n) 9 n h
 
 some : (k n : ℕ) → 0 < length (digits (suc k) n)
 some k n = go (dec_lt n 10)

@@ -1,14 +1,13 @@
+pub mod Pairs
+pub mod Stepping
 pub mod NumberCases
 pub mod Numbers
 pub mod Read
-pub mod ArgumentCases
-pub mod Meanings
 pub mod ArgumentRanges
-pub mod EntryCases
+pub mod Ranges
 pub mod Codes
 pub mod Found
 pub mod Inside
-pub mod Ranges
 pub mod Appended
 pub mod Decimal
 pub mod LinesAppended

@@ -1,5 +1,6 @@
 -- The four ways in which a read at a place ends, as a view: a law of `number_at` matches on it and goes through the tests no more.
 -- Assumes nothing.
+use Rattle.std.specs.Prelude.{Option, Some, None}
 use Prim.Native.Nat.{ℕ, ◌+◌, ◌-◌, ◌*◌, ◌<◌, ◌≤◌}
 use native.Mathlib.Omega.{arith}
 use native.Mathlib.Decide.{dec_lt}
@@ -7,17 +8,15 @@ use mathlib.Core.Path.{refl}
 use mathlib.Core.List.{List}
 use lib.ListN.{length, get_or}
 use Rattle.trace_rules.specs.Groups.{number_at}
-use Rattle.trace_rules.specs.declared.Number.{Number}
-use Rattle.trace_rules.specs.declared.Number.TheVariants.{Value, Bad}
 use Rattle.trace_rules.proofs.NumberCases.{cut_1, one, cut_2, zero_2, two, cut_3, zero_3, over_3, three}
 
-pub data Read (s : List ℕ) (at : ℕ) : Number → Type 0 where
-  bad : Read s at Bad
-  in_1 : at < length s → get_or s at 0 < 128 → Read s at (Value (get_or s at 0) (at + 1))
+pub data Read (s : List ℕ) (at : ℕ) : Option (ℕ × ℕ) → Type 0 where
+  bad : Read s at None
+  in_1 : at < length s → get_or s at 0 < 128 → Read s at (Some (get_or s at 0, at + 1))
   in_2 : at + 1 < length s → 128 ≤ get_or s at 0 → 0 < get_or s (at + 1) 0 → get_or s (at + 1) 0 < 128
-      → Read s at (Value (get_or s at 0 - 128 + get_or s (at + 1) 0 * 128) (at + 1 + 1))
+      → Read s at (Some (get_or s at 0 - 128 + get_or s (at + 1) 0 * 128, at + 1 + 1))
   in_3 : at + 1 + 1 < length s → 128 ≤ get_or s at 0 → 128 ≤ get_or s (at + 1) 0 → 0 < get_or s (at + 1 + 1) 0 → get_or s (at + 1 + 1) 0 ≤ 3
-      → Read s at (Value (get_or s at 0 - 128 + (get_or s (at + 1) 0 - 128) * 128 + get_or s (at + 1 + 1) 0 * 16384) (at + 1 + 1 + 1))
+      → Read s at (Some (get_or s at 0 - 128 + (get_or s (at + 1) 0 - 128) * 128 + get_or s (at + 1 + 1) 0 * 16384, at + 1 + 1 + 1))
 
 module _ (s : List ℕ) (at : ℕ) where
   third_group : at + 1 + 1 < length s → 128 ≤ get_or s at 0 → 128 ≤ get_or s (at + 1) 0

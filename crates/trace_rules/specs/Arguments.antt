@@ -1,47 +1,36 @@
 -- The arguments of an entry: numbers of the trace, each in its range, and what they stand for.
 -- Assumes nothing.
-use Rattle.std.specs.Prelude.{ℕ, ◌-◌, ◌<◌, ◌≤◌, List, Bool, cond, leb, eqb, length}
-use Rattle.trace_rules.specs.declared.Number.{Number}
-use Rattle.trace_rules.specs.declared.Number.TheVariants.{Value, Bad}
+use Rattle.std.specs.Prelude.{ℕ, ◌-◌, ◌<◌, ◌≤◌, List, Bool, Option, Some, None, cond, leb, eqb, length}
+use Rattle.trace_rules.specs.Steps.{◌>>=◌}
 use Rattle.trace_rules.specs.Groups.{number_at}
 use Rattle.board.specs.declared.Direction.{Direction}
 use Rattle.board.specs.declared.Direction.TheVariants.{Out, In}
-use Rattle.endpoints.specs.declared.Wanted.{Wanted}
-use Rattle.endpoints.specs.declared.Wanted.TheVariants.{Any, Number as Want}
 use Rattle.event_rules.specs.declared.BusEvent.{BusEvent}
 use Rattle.event_rules.specs.declared.BusEvent.TheVariants.{Reset, Suspend, Resume}
-use Rattle.trace_rules.specs.declared.Arg.{Arg}
-use Rattle.trace_rules.specs.declared.Arg.TheVariants.{Got, No}
-use Rattle.trace_rules.specs.declared.Two.{Two}
-use Rattle.trace_rules.specs.declared.Two.TheVariants.{Both, Neither}
 
-abbrev pub in_range : ℕ → Number → Arg
-in_range most (Value a past) = cond (leb a most) (Got a past) No
-in_range most Bad = No
+-- a number that was read, with the place after it, where it is at most `most`
+abbrev pub in_range : ℕ → Option (ℕ × ℕ) → Option (ℕ × ℕ)
+in_range most (Some (a, past)) = cond (leb a most) (Some (a, past)) None
+in_range most None = None
 
 -- the number at a place, where it is at most `most`
-unfoldable pub arg_at : List ℕ → ℕ → ℕ → Arg
+unfoldable pub arg_at : List ℕ → ℕ → ℕ → Option (ℕ × ℕ)
 arg_at s at most = in_range most (number_at s at)
 
-abbrev pub joined : ℕ → Arg → Two
-joined a (Got b past) = Both a b past
-joined a No = Neither
-
-abbrev pub second : List ℕ → ℕ → Arg → Two
-second s n (Got a mid) = joined a (arg_at s mid n)
-second s n No = Neither
-
--- two numbers from a place on, at most m and at most n
-unfoldable pub two_at : List ℕ → ℕ → ℕ → ℕ → Two
-two_at s at m n = second s n (arg_at s at m)
+-- two numbers from a place on, at most m and at most n, with the place after them
+unfoldable pub two_at : List ℕ → ℕ → ℕ → ℕ → Option (ℕ × ℕ × ℕ)
+two_at s at m n = do
+  (a, mid) ← arg_at s at m
+  (b, past) ← arg_at s mid n
+  Some (a, b, past)
 
 -- "direction 0 out 1 in"
 abbrev pub direction_of : ℕ → Direction
 direction_of n = cond (eqb n 0) Out In
 
 -- "0 or wanted+1"
-abbrev pub wanted_of : ℕ → Wanted
-wanted_of n = cond (eqb n 0) Any (Want (n - 1))
+abbrev pub wanted_of : ℕ → Option ℕ
+wanted_of n = cond (eqb n 0) None (Some (n - 1))
 
 -- "bus (0 reset 1 suspend 2 resume)"
 abbrev pub bus_of : ℕ → BusEvent

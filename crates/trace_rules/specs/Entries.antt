@@ -1,15 +1,8 @@
 -- The entries of a trace. Document 01: "Codes and arguments", each argument's range as it stands there.
 -- Assumes nothing.
-use Rattle.std.specs.Prelude.{ℕ, ◌+◌, ◌≤◌, List, cond, leb, eqb, length}
-use Rattle.trace_rules.specs.declared.Number.{Number}
-use Rattle.trace_rules.specs.declared.Number.TheVariants.{Value, Bad as NoNumber}
+use Rattle.std.specs.Prelude.{ℕ, ◌+◌, ◌≤◌, List, Option, Some, None, cond, leb, eqb, length}
+use Rattle.trace_rules.specs.Steps.{◌>>=◌}
 use Rattle.trace_rules.specs.Groups.{number_at}
-use Rattle.trace_rules.specs.declared.Arg.{Arg}
-use Rattle.trace_rules.specs.declared.Arg.TheVariants.{Got, No}
-use Rattle.trace_rules.specs.declared.Two.{Two}
-use Rattle.trace_rules.specs.declared.Two.TheVariants.{Both, Neither}
-use Rattle.trace_rules.specs.declared.Held.{Held}
-use Rattle.trace_rules.specs.declared.Held.TheVariants.{Bytes, Cut}
 use Rattle.trace_rules.specs.declared.Entry.{Entry}
 use Rattle.trace_rules.specs.declared.Entry.TheVariants.{Allocate, Init, Reset, Address, Write, Read, Stall, IsStalled, Poll, Interrupt, Enable, Arrival, Collect, Bus, SetupEnd, Underrun, Overrun}
 use Rattle.trace_rules.specs.declared.Parsed.{Parsed}
@@ -18,80 +11,86 @@ use Rattle.trace_rules.specs.Arguments.{arg_at, two_at, direction_of, wanted_of,
 use Rattle.trace_rules.specs.Packets.{packet_at}
 use Rattle.endpoints.specs.Endpoints.{type_of}
 
--- what follows from arguments, or bad where there are none
-abbrev pub with_arg : (ℕ → ℕ → Parsed) → Arg → Parsed
-with_arg k (Got a past) = k a past
-with_arg k No = Bad
-
-abbrev pub with_two : (ℕ → ℕ → ℕ → Parsed) → Two → Parsed
-with_two k (Both a b past) = k a b past
-with_two k Neither = Bad
-
-abbrev pub with_packet : (ℕ → ℕ → ℕ → ℕ → Parsed) → Held → Parsed
-with_packet k (Bytes e start n past) = k e start n past
-with_packet k Cut = Bad
-
 -- "1 allocate (direction 0 out 1 in; 0 or wanted+1; type ..; size)", "wanted+1 to 256"
-unfoldable pub allocate_at : List ℕ → ℕ → Parsed
-allocate_at s at = with_two (λ d w mid. with_two (λ t n past. Found (Allocate (direction_of d) (wanted_of w) (type_of t) n) past) (two_at s mid 3 65535)) (two_at s at 1 256)
+unfoldable pub allocate_at : List ℕ → ℕ → Option (Entry × ℕ)
+allocate_at s at = do
+  (d, w, mid) ← two_at s at 1 256
+  (t, n, past) ← two_at s mid 3 65535
+  Some (Allocate (direction_of d) (wanted_of w) (type_of t) n, past)
 
 -- "5 write (endpoint, length, bytes)", "Endpoints to 255"
-unfoldable pub write_at : List ℕ → ℕ → Parsed
-write_at s at = with_packet (λ e start n past. Found (Write e start n) past) (packet_at s at)
+abbrev pub write_at : List ℕ → ℕ → Option (Entry × ℕ)
+write_at s at = do
+  (p, past) ← packet_at s at
+  Some (Write p, past)
 
 -- "6 read (endpoint, buffer length to 512)"
-unfoldable pub read_at : List ℕ → ℕ → Parsed
-read_at s at = with_two (λ e n past. Found (Read e n) past) (two_at s at 255 512)
+unfoldable pub read_at : List ℕ → ℕ → Option (Entry × ℕ)
+read_at s at = do
+  (e, n, past) ← two_at s at 255 512
+  Some (Read e n, past)
 
 -- "7 stall (endpoint, direction, 0 or 1)"
-unfoldable pub stall_at : List ℕ → ℕ → Parsed
-stall_at s at = with_two (λ e d mid. with_arg (λ a past. Found (Stall e (direction_of d) (flag_of a)) past) (arg_at s mid 1)) (two_at s at 255 1)
+unfoldable pub stall_at : List ℕ → ℕ → Option (Entry × ℕ)
+stall_at s at = do
+  (e, d, mid) ← two_at s at 255 1
+  (a, past) ← arg_at s mid 1
+  Some (Stall e (direction_of d) (flag_of a), past)
 
 -- "8 is stalled (endpoint, direction)"
-unfoldable pub is_stalled_at : List ℕ → ℕ → Parsed
-is_stalled_at s at = with_two (λ e d past. Found (IsStalled e (direction_of d)) past) (two_at s at 255 1)
+unfoldable pub is_stalled_at : List ℕ → ℕ → Option (Entry × ℕ)
+is_stalled_at s at = do
+  (e, d, past) ← two_at s at 255 1
+  Some (IsStalled e (direction_of d), past)
 
 -- "12 arrival (as 5)"
-unfoldable pub arrival_at : List ℕ → ℕ → Parsed
-arrival_at s at = with_packet (λ e start n past. Found (Arrival e start n) past) (packet_at s at)
+abbrev pub arrival_at : List ℕ → ℕ → Option (Entry × ℕ)
+arrival_at s at = do
+  (p, past) ← packet_at s at
+  Some (Arrival p, past)
 
 -- "14 bus (0 reset 1 suspend 2 resume)"
-unfoldable pub bus_at : List ℕ → ℕ → Parsed
-bus_at s at = with_arg (λ a past. Found (Bus (bus_of a)) past) (arg_at s at 2)
+unfoldable pub bus_at : List ℕ → ℕ → Option (Entry × ℕ)
+bus_at s at = do
+  (a, past) ← arg_at s at 2
+  Some (Bus (bus_of a), past)
 
 -- "4 address", "13 collect (endpoint)", "16 underrun, 17 overrun (endpoint)": "Endpoints to 255, addresses to 255"
-unfoldable pub one_at : (ℕ → Entry) → List ℕ → ℕ → Parsed
-one_at entry s at = with_arg (λ a past. Found (entry a) past) (arg_at s at 255)
+abbrev pub one_at : (ℕ → Entry) → List ℕ → ℕ → Option (Entry × ℕ)
+one_at entry s at = do
+  (a, past) ← arg_at s at 255
+  Some (entry a, past)
 
--- which of the four, by the code, as the program chooses; a code other than 4, 13 and 16 is taken for 17, and `code_at` asks no other
-abbrev pub one_of : ℕ → ℕ → Entry
-one_of c a = cond (eqb c 4) (Address a) (cond (eqb c 13) (Collect a) (cond (eqb c 16) (Underrun a) (Overrun a)))
-
--- the entry of code c whose arguments begin at a place; "an unknown code" is bad
-unfoldable pub code_at : List ℕ → ℕ → ℕ → Parsed
+-- the entry of code c whose arguments begin at a place; "an unknown code" has none
+unfoldable pub code_at : List ℕ → ℕ → ℕ → Option (Entry × ℕ)
 code_at s c at =
     cond (eqb c 1) (allocate_at s at) (
-    cond (eqb c 2) (Found Init at) (
-    cond (eqb c 3) (Found Reset at) (
+    cond (eqb c 2) (Some (Init, at)) (
+    cond (eqb c 3) (Some (Reset, at)) (
     cond (eqb c 4) (one_at Address s at) (
     cond (eqb c 5) (write_at s at) (
     cond (eqb c 6) (read_at s at) (
     cond (eqb c 7) (stall_at s at) (
     cond (eqb c 8) (is_stalled_at s at) (
-    cond (eqb c 9) (Found Poll at) (
-    cond (eqb c 10) (Found Interrupt at) (
-    cond (eqb c 11) (Found Enable at) (
+    cond (eqb c 9) (Some (Poll, at)) (
+    cond (eqb c 10) (Some (Interrupt, at)) (
+    cond (eqb c 11) (Some (Enable, at)) (
     cond (eqb c 12) (arrival_at s at) (
     cond (eqb c 13) (one_at Collect s at) (
     cond (eqb c 14) (bus_at s at) (
-    cond (eqb c 15) (Found SetupEnd at) (
+    cond (eqb c 15) (Some (SetupEnd, at)) (
     cond (eqb c 16) (one_at Underrun s at) (
     cond (eqb c 17) (one_at Overrun s at) (
-    Bad)))))))))))))))))
+    None)))))))))))))))))
 
-abbrev pub with_code : List ℕ → Number → Parsed
-with_code s (Value c past) = code_at s c past
-with_code s NoNumber = Bad
+-- an entry, or bad where there is none
+abbrev pub parsed : Option (Entry × ℕ) → Parsed
+parsed (Some (e, past)) = Found e past
+parsed None = Bad
+
+abbrev pub with_code : List ℕ → Option (ℕ × ℕ) → Parsed
+with_code s (Some (c, past)) = parsed (code_at s c past)
+with_code s None = Bad
 
 -- what stands at a place of a trace. The code is a number in the same form.
 unfoldable pub entry_at : List ℕ → ℕ → Parsed
@@ -103,14 +102,14 @@ code_of (Allocate a b c d) = 1
 code_of Init = 2
 code_of Reset = 3
 code_of (Address a) = 4
-code_of (Write a b c) = 5
+code_of (Write a) = 5
 code_of (Read a b) = 6
 code_of (Stall a b c) = 7
 code_of (IsStalled a b) = 8
 code_of Poll = 9
 code_of Interrupt = 10
 code_of Enable = 11
-code_of (Arrival a b c) = 12
+code_of (Arrival a) = 12
 code_of (Collect a) = 13
 code_of (Bus a) = 14
 code_of SetupEnd = 15
@@ -123,14 +122,14 @@ Within s (Allocate d w t n) = Unit {0}
 Within s Init = Unit {0}
 Within s Reset = Unit {0}
 Within s (Address a) = Unit {0}
-Within s (Write e start n) = start + n ≤ length s
+Within s (Write p) = p.start + p.len ≤ length s
 Within s (Read e n) = n ≤ 512
 Within s (Stall e d on) = Unit {0}
 Within s (IsStalled e d) = Unit {0}
 Within s Poll = Unit {0}
 Within s Interrupt = Unit {0}
 Within s Enable = Unit {0}
-Within s (Arrival e start n) = start + n ≤ length s
+Within s (Arrival p) = p.start + p.len ≤ length s
 Within s (Collect e) = Unit {0}
 Within s (Bus b) = Unit {0}
 Within s SetupEnd = Unit {0}

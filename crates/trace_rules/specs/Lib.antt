@@ -1,5 +1,6 @@
 pub mod Encode
 pub mod Groups
+pub mod Steps
 pub mod Arguments
 pub mod Packets
 pub mod Entries

@@ -5,52 +5,32 @@
 #![tactic(auto)]
 
 use board::Direction;
-use endpoints::{EndpointType, Wanted};
+use endpoints::EndpointType;
 use event_rules::BusEvent;
 
-// A number with the place after it, or none: cut short, not in the shortest form, or over 65,535.
+// A packet of a trace: its endpoint, where its bytes start there, and how many they are.
 #[derive(Clone, Copy)]
-pub enum Number {
-    Value(u16, usize),
-    Bad,
+pub struct Packet {
+    pub endpoint: u8,
+    pub start: usize,
+    pub len: usize,
 }
 
-// An argument in its range, with the place after it.
-#[derive(Clone, Copy)]
-pub enum Arg {
-    Got(u16, usize),
-    No,
-}
-
-// Two arguments, each in its range, with the place after them.
-#[derive(Clone, Copy)]
-pub enum Two {
-    Both(u16, u16, usize),
-    Neither,
-}
-
-// A packet (endpoint, start, length) whose bytes lie inside the trace, with the place after them.
-#[derive(Clone, Copy)]
-pub enum Held {
-    Bytes(u8, usize, usize, usize),
-    Cut,
-}
-
-// One case for each code, 1 to 17 in this order. A packet is its endpoint, where its bytes start in the trace, and how many they are.
+// One case for each code, 1 to 17 in this order.
 #[derive(Clone, Copy)]
 pub enum Entry {
-    Allocate(Direction, Wanted, EndpointType, u16),
+    Allocate(Direction, Option<u8>, EndpointType, u16),
     Init,
     Reset,
     Address(u8),
-    Write(u8, usize, usize),
+    Write(Packet),
     Read(u8, u16),
     Stall(u8, Direction, bool),
     IsStalled(u8, Direction),
     Poll,
     Interrupt,
     Enable,
-    Arrival(u8, usize, usize),
+    Arrival(Packet),
     Collect(u8),
     Bus(BusEvent),
     SetupEnd,
@@ -58,7 +38,8 @@ pub enum Entry {
     Overrun(u8),
 }
 
-// What stands at a place of a trace: an entry with the place of the next, the end, or something bad.
+// What stands at a place of a trace: an entry with the place of the next, the end, or something bad. Three cases, none of which is an error to who steps
+// through a trace: as a `Result` of an `Option` it would be unpacked in two goes.
 #[derive(Clone, Copy)]
 pub enum Parsed {
     Found(Entry, usize),

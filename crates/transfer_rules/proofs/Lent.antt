@@ -1,24 +1,17 @@
 -- What the first tests of a write or a read let through. Where reply 15 is not given, the FIFO buffer holds every area and the list 128 stores.
 -- Assumes nothing.
 use Prim.Native.Nat.{ℕ, ◌≤◌, ◌<◌}
-use mathlib.Core.Path.{◌≡◌, sym, ap, ◌∙◌}
+use mathlib.Core.Path.{◌≡◌}
 use mathlib.Core.Logic.{◌↔◌, ◌⊎◌}
-use mathlib.Core.Bool.{Bool, true, false}
+use mathlib.Core.Bool.{true, false}
 use borrow.Author.Tests.{ltb-false}
 use lib.Dec.{leb, ltb}
 use Rattle.laws.proofs.Tests.{neither}
 use Rattle.board.specs.declared.Board.{Board}
-use Rattle.register_file.specs.Registers.{File}
-use Rattle.record.specs.declared.Flags.{Flags}
 use Rattle.record.specs.declared.Record.{Record}
-use Rattle.record.specs.declared.Refusal.{Refusal}
-use Rattle.record.specs.declared.Admission.{Admission}
-use Rattle.record.specs.declared.Admission.TheVariants as admission
-use Rattle.record.specs.Record.{need_in, need_of, endpoints_of, record_sound, endpoints_in, passes, admission_by}
+use Rattle.record.specs.Record.{need_in, need_of, endpoints_of, record_sound}
 use Rattle.record.proofs.Rows.{tells_under, tells_either}
-use Rattle.transfer_rules.specs.declared.Verdict.{Verdict}
-use Rattle.transfer_rules.specs.declared.Verdict.TheVariants as verdict
-use Rattle.transfer_rules.specs.Peek.{short_in, short, first_tests, tests_by}
+use Rattle.transfer_rules.specs.Peek.{short_in, short}
 
 pub enough : (b : Board) (f l : ℕ) → short_in b f l ≡ false → (need_in b ≤ f) × (384 ≤ l)
 unfolding short_in
@@ -33,20 +26,6 @@ pub record Admitted (k : Record) (ep fifo list : ℕ) : Type 0 where
   pub lent : short k fifo list ≡ false
   pub passes : record_sound k ≡ true
   pub there : leb (endpoints_of k) ep ≡ false
-
--- the tests of a call, once the first three have come to a: its own where these are passed
-module _ (b : Board) (w : File) (f : Flags) (ep fifo list : ℕ) (own : Verdict) {s : Bool} {m : ℕ} {a : Admission} (lent : s ≡ short_in b fifo list)
-    (count : m ≡ endpoints_in b) (is : a ≡ admission_by s (passes b w f) (leb m ep)) where
-  first : a ≡ first_tests b w f ep fifo list
-  first =
-      is ∙ ap (λ (x : Bool). admission_by x (passes b w f) (leb m ep)) lent
-      ∙ ap (λ (x : ℕ). admission_by (short_in b fifo list) (passes b w f) (leb x ep)) count
-
-  pub tests_clear : {v : Verdict} → a ≡ admission.Clear → v ≡ own → v ≡ tests_by (first_tests b w f ep fifo list) own
-  tests_clear e p = p ∙ ap (λ (x : Admission). tests_by x own) (sym e ∙ first)
-
-  pub tests_refused : {x : Refusal} → a ≡ admission.Refused x → verdict.Refused x ≡ tests_by (first_tests b w f ep fifo list) own
-  tests_refused e = ap (λ (x : Admission). tests_by x own) (sym e ∙ first)
 
 -- reply 15's row and its test
 pub says_short : (k : Record) (f l : ℕ) → short k f l ≡ true ↔ ((f < need_of k) ⊎ (l < 384))

@@ -1,17 +1,11 @@
-pub mod Endings
 pub mod Lent
 pub mod WriteCases
 pub mod ReadCases
 pub mod Readings
-pub mod WriteTests
-pub mod WriteZero
 pub mod WriteAnswers
-pub mod Write
 pub mod WriteReplies
 pub mod WriteVerdicts
-pub mod ReadTests
 pub mod ReadZeroAnswers
-pub mod ReadZero
 pub mod ReadAnswers
 pub mod Read
 pub mod ReadReplies

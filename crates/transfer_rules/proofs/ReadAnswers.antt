@@ -1,6 +1,7 @@
 -- What a read answers and leaves: each reply is given exactly when its row of document 01's table says so, and a refused read leaves all as
 -- it was, but for reply 6.
 -- Assumes nothing.
+use Rattle.std.specs.Prelude.{Err, Ok}
 use Prim.Native.Nat.{ℕ}
 use mathlib.Core.Path.{◌≡◌, refl, sym, subst, ap, ◌∙◌}
 use mathlib.Core.Logic.{◌↔◌}
@@ -14,7 +15,6 @@ use Rattle.record.specs.declared.Refusal.TheVariants.{WouldBlock}
 use Rattle.transfer_rules.specs.declared.Verdict.{Verdict}
 use Rattle.transfer_rules.specs.declared.Verdict.TheVariants as verdict
 use Rattle.transfer_rules.specs.Peek.{blocked, verdict_number}
-use Rattle.transfer_rules.specs.declared.ReadAnswer.TheVariants.{Done, Refused}
 use Rattle.transfer_rules.specs.ReadZero.{read_number, rx_size}
 use Rattle.transfer_rules.specs.ReadTests.{waiting, tests}
 use Rattle.transfer_rules.specs.Read.{ReadOutcome, outcome, read_done, refused, read_by, read_in, read_call}
@@ -47,25 +47,25 @@ module _ (k : Record) (ep : ℕ) (b f l : List ℕ) where
   )
 
   -- "0: done, with its value": the packet's length
-  pub value : (n : ℕ) → (read_call k ep b f l).result.answer ≡ Done n → n ≡ waiting k ep
+  pub value : (n : ℕ) → (read_call k ep b f l).result.answer ≡ Ok n → n ≡ waiting k ep
   unfolding waiting read_done
   value n e = go (tests k ep (length b) (length f) (length l)) (sym (ap (λ (o : ReadOutcome). o.result.answer) by_tests) ∙ e)
     where
-      go : (v : Verdict) → (tested v).result.answer ≡ Done n → n ≡ waiting k ep
+      go : (v : Verdict) → (tested v).result.answer ≡ Ok n → n ≡ waiting k ep
       go verdict.Clear e = cc
       go verdict.Blocked e = let z : ◌≡◌ {A = ℕ} 0 1 = cc in absurd (omega arith)
       go (verdict.Refused x) e = let z : ◌≡◌ {A = ℕ} 0 1 = cc in absurd (omega arith)
 
   -- "A refusal returns its number and changes nothing: record, FIFOs, list, caller's buffer."
-  pub unchanged : (x : Refusal) → (read_call k ep b f l).result.answer ≡ Refused x → (x ≡ WouldBlock → ⊥)
-      → read_call k ep b f l ≡ record { result = record { answer = Refused x; «record» = k; stores = 0 }; list = l; buf = b }
+  pub unchanged : (x : Refusal) → (read_call k ep b f l).result.answer ≡ Err x → (x ≡ WouldBlock → ⊥)
+      → read_call k ep b f l ≡ record { result = record { answer = Err x; «record» = k; stores = 0 }; list = l; buf = b }
   unfolding read_done
   unchanged x e n = by_tests ∙ go (tests k ep (length b) (length f) (length l)) (sym (ap (λ (o : ReadOutcome). o.result.answer) by_tests) ∙ e)
     where
       left : Refusal → ReadOutcome
-      left y = record { result = record { answer = Refused y; «record» = k; stores = 0 }; list = l; buf = b }
+      left y = record { result = record { answer = Err y; «record» = k; stores = 0 }; list = l; buf = b }
 
-      go : (v : Verdict) → (tested v).result.answer ≡ Refused x → tested v ≡ left x
+      go : (v : Verdict) → (tested v).result.answer ≡ Err x → tested v ≡ left x
       go verdict.Clear e = let z : ◌≡◌ {A = ℕ} 0 1 = cc in absurd (omega arith)
       go verdict.Blocked e = absurd (n (cc))
       go (verdict.Refused y) e = let same : y ≡ x = cc in ap left same

@@ -1,4 +1,5 @@
 -- An answered write and an answered read leave what specs/Transfers.antt says. Assumes nothing.
+use Rattle.std.specs.Prelude.{Ok}
 use Prim.Native.Nat.{ℕ, ◌+◌, ◌≤◌, ◌<◌}
 use mathlib.Core.Path.{◌≡◌, refl, sym, ap, subst, ◌∙◌}
 use mathlib.Core.Bool.{true, false}
@@ -38,8 +39,6 @@ use Rattle.record.proofs.Bytes.{pasted_fills}
 use Rattle.record.proofs.Passing.{record_is_sound, waiting_fits}
 use Rattle.transfer_rules.specs.declared.Verdict.{Verdict}
 use Rattle.transfer_rules.specs.declared.Verdict.TheVariants.{Clear}
-use Rattle.transfer_rules.specs.declared.WriteAnswer.TheVariants as wrote
-use Rattle.transfer_rules.specs.declared.ReadAnswer.TheVariants as got-answer
 use Rattle.transfer_rules.specs.Peek.{rx_count, after}
 use Rattle.transfer_rules.specs.WriteTests as write_tests_lem
 use Rattle.transfer_rules.specs.WriteZero.{write_number}
@@ -153,7 +152,7 @@ module _ (k : Record) (e : ℕ) (bytes x l : List ℕ) where
       before = side_at k.regs.words e In
 
       abbrev leaves : Log → WriteOutcome
-      leaves h = write.outcome k (write.write_left (wrote.Done n) (pasted x (area_in k.regs.board e In).start bytes) (after k.control_state k.irq h))
+      leaves h = write.outcome k (write.write_left (Ok n) (pasted x (area_in k.regs.board e In).start bytes) (after k.control_state k.irq h))
 
       call_other : whose ≡ leaves (modify_txcsrl TxPktRdy (write_packet n (write_index e g)))
       unfolding write.write_done sent sent_other loaded
@@ -261,7 +260,7 @@ module _ (k : Record) (e : ℕ) (buf x l : List ℕ) where
     part_within : 0 + length part ≤ length buf
     part_within = omega (arith, part_length, buf_room)
 
-    said_len : reading.result.answer ≡ got-answer.Done len
+    said_len : reading.result.answer ≡ Ok len
     unfolding read.read_done
     said_len = ap (λ (o : ReadOutcome). o.result.answer) read_done_lem
 
@@ -299,7 +298,7 @@ module _ (k : Record) (e : ℕ) (buf x l : List ℕ) where
       count = rx_count e k.regs.words
 
       abbrev gives : Log → ReadOutcome
-      gives h = read.outcome k (record { answer = got-answer.Done count; buf = copied k.regs.board e count buf x; after = after k.control_state k.irq h })
+      gives h = read.outcome k (record { answer = Ok count; buf = copied k.regs.board e count buf x; after = after k.control_state k.irq h })
 
       read_other_lem : reading ≡ gives (modify_rxcsrl NoRxPktRdy (write_index e from))
       unfolding read.read_done got read_other

@@ -1,6 +1,7 @@
 -- What a write answers and leaves: each reply is given exactly when its row of document 01's table says so, and a refused write leaves all
 -- as it was, but for reply 6.
 -- Assumes nothing.
+use Rattle.std.specs.Prelude.{Err, Ok}
 use Prim.Native.Nat.{ℕ}
 use mathlib.Core.Path.{◌≡◌, refl, sym, subst, ap, ◌∙◌}
 use mathlib.Core.Logic.{◌↔◌}
@@ -18,14 +19,13 @@ use Rattle.transfer_rules.specs.declared.Verdict.{Verdict}
 use Rattle.transfer_rules.specs.declared.Verdict.TheVariants as verdict
 use Rattle.transfer_rules.specs.Peek.{verdict_number}
 use Rattle.transfer_rules.specs.WriteTests.{tests}
-use Rattle.transfer_rules.specs.declared.WriteAnswer.TheVariants.{Done, Refused}
 use Rattle.transfer_rules.specs.WriteZero.{write_number, tx_size}
 use Rattle.transfer_rules.specs.Write.{WriteLeft, WriteOutcome, outcome, refused, blocked_call, write_done, write_by, write_in, write_call}
 use Rattle.transfer_rules.proofs.WriteCases.{WriteCase}
 use Rattle.transfer_rules.proofs.WriteVerdicts.{meets, decides, is_blocked}
 
 -- a write that is done answers its length, at whatever endpoint and in whatever state
-pub write_done_lem : (b : Board) (c : ControlState) (f : Flags) (t ep : ℕ) (bytes x : List ℕ) (g : Log) → (write_done b c f t ep bytes x g).answer ≡ Done (length bytes)
+pub write_done_lem : (b : Board) (c : ControlState) (f : Flags) (t ep : ℕ) (bytes x : List ℕ) (g : Log) → (write_done b c f t ep bytes x g).answer ≡ Ok (length bytes)
 unfolding write_done
 write_done_lem b c f t ep bytes x g = refl
 
@@ -57,19 +57,19 @@ module _ (k : Record) (ep : ℕ) (b f l : List ℕ) where
   )
 
   -- "0: done, with its value": the written length
-  pub value : (n : ℕ) → (write_call k ep b f l).result.answer ≡ Done n → n ≡ length b
+  pub value : (n : ℕ) → (write_call k ep b f l).result.answer ≡ Ok n → n ≡ length b
   value n e = go verdict_of (sym (ap (λ (o : WriteOutcome). o.result.answer) call_is) ∙ e)
     where
-      go : (v : Verdict) → (ran_by v).answer ≡ Done n → n ≡ length b
+      go : (v : Verdict) → (ran_by v).answer ≡ Ok n → n ≡ length b
       go verdict.Clear e = let d = write_done_lem k.regs.board k.control_state k.irq (tx_size k) ep b f (log k.regs.words l 0) in cc
       go verdict.Blocked e = let z : ◌≡◌ {A = ℕ} 0 1 = cc in absurd (omega arith)
       go (verdict.Refused x) e = let z : ◌≡◌ {A = ℕ} 0 1 = cc in absurd (omega arith)
 
   -- "A refusal returns its number and changes nothing: record, FIFOs, list"
-  pub unchanged : (x : Refusal) → (write_call k ep b f l).result.answer ≡ Refused x → (x ≡ WouldBlock → ⊥) → write_call k ep b f l ≡ refused x k f l
+  pub unchanged : (x : Refusal) → (write_call k ep b f l).result.answer ≡ Err x → (x ≡ WouldBlock → ⊥) → write_call k ep b f l ≡ refused x k f l
   unchanged x e n = call_is ∙ go verdict_of (sym (ap (λ (o : WriteOutcome). o.result.answer) call_is) ∙ e)
     where
-      go : (v : Verdict) → (ran_by v).answer ≡ Refused x → outcome k (ran_by v) ≡ refused x k f l
+      go : (v : Verdict) → (ran_by v).answer ≡ Err x → outcome k (ran_by v) ≡ refused x k f l
       go verdict.Clear e =
           let d = write_done_lem k.regs.board k.control_state k.irq (tx_size k) ep b f (log k.regs.words l 0) in
           let z : ◌≡◌ {A = ℕ} 0 1 = cc in absurd (omega arith)

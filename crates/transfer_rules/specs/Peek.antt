@@ -1,21 +1,18 @@
 -- What the calls `write` and `read` share: whether enough is lent, the ready bits and the count of an endpoint as the source reads them once
 -- that endpoint is selected, the order of their tests, and what their steps leave.
 -- Assumes nothing.
-use Rattle.std.specs.Prelude.{ℕ, Bool, ◌||◌, List, leb, ltb}
+use Rattle.std.specs.Prelude.{ℕ, Bool, ◌||◌, leb, ltb, Err, Ok}
 use Rattle.board.specs.declared.Board.{Board}
 use Rattle.board.specs.declared.Direction.TheVariants.{Out, In}
 use Rattle.csr.specs.declared.Csr0lSet.TheVariants.{DataEnd}
 use Rattle.register_file.specs.Registers.{File, side_at}
-use Rattle.store_rules.specs.Stores.{Log, log, write_index, modify_csr0l}
+use Rattle.store_rules.specs.Stores.{Log, write_index, modify_csr0l}
 use Rattle.control_state.specs.declared.ControlState.{ControlState}
 use Rattle.record.specs.declared.Flags.{Flags}
 use Rattle.record.specs.declared.Record.{Record}
-use Rattle.record.specs.declared.Admission.{Admission}
-use Rattle.record.specs.declared.Admission.TheVariants as admission
-use Rattle.record.specs.Record.{need_in, endpoints_in, passes, admission_by, list_need, refusal_number}
+use Rattle.record.specs.Record.{need_in, endpoints_in, passes, admission_by, list_need, refusal_number, Reply}
 use Rattle.transfer_rules.specs.declared.Verdict.{Verdict}
 use Rattle.transfer_rules.specs.declared.Verdict.TheVariants as verdict
-use Rattle.transfer_rules.specs.declared.Served.{Served}
 
 -- reply 15: "FIFO buffer under 1,664 bytes or list under 384 numbers": what the board needs is 1,664
 unfoldable pub short_in : Board → ℕ → ℕ → Bool
@@ -36,13 +33,13 @@ abbrev pub rx_count : ℕ → File → ℕ
 rx_count e w = (side_at w e Out).len
 
 -- "Order: 15, 16, 8, then ..": the three that come first,
-abbrev pub first_tests : Board → File → Flags → ℕ → ℕ → ℕ → Admission
+abbrev pub first_tests : Board → File → Flags → ℕ → ℕ → ℕ → Reply Unit
 first_tests b w f ep fifo list = admission_by (short_in b fifo list) (passes b w f) (leb (endpoints_in b) ep)
 
 -- and then the call's own
-abbrev pub tests_by : Admission → Verdict → Verdict
-tests_by admission.Clear own = own
-tests_by (admission.Refused x) own = verdict.Refused x
+abbrev pub tests_by : Reply Unit → Verdict → Verdict
+tests_by (Ok tt) own = own
+tests_by (Err x) own = verdict.Refused x
 
 -- document 01's reply of a verdict, 0 where none is refused
 abbrev pub verdict_number : Verdict → ℕ
@@ -58,10 +55,6 @@ pub record After : Type 0 where
 
 abbrev pub after : ControlState → Flags → Log → After
 after c f g = record { log = g; control = c; irq = f }
-
--- what a function of theirs gives back, with the registers and the list that it leaves
-abbrev pub after_of : Served → File → List ℕ → After
-after_of o w l = after o.control_state o.irq (log w l o.n)
 
 -- the record with what the steps left
 abbrev pub leaving : Record → After → Record

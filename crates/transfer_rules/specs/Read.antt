@@ -1,6 +1,7 @@
 -- The call `read`: its tests decide, its steps stand in the source's order, and this is the whole of what it leaves.
 -- Assumes nothing.
-use Rattle.std.specs.Prelude.{ℕ, cond, List, eqb, length, take, drop}
+use Rattle.std.specs.Prelude.{ℕ, cond, List, eqb, length, take, drop, Err, Ok}
+use Rattle.record.specs.declared.Called.{Called}
 use Rattle.laws.specs.Lists.{pasted}
 use Rattle.board.specs.declared.Board.{Board}
 use Rattle.board.specs.declared.Direction.TheVariants.{Out}
@@ -12,31 +13,27 @@ use Rattle.record.specs.declared.Flags.{Flags}
 use Rattle.record.specs.declared.Record.{Record}
 use Rattle.record.specs.declared.Refusal.{Refusal}
 use Rattle.record.specs.declared.Refusal.TheVariants.{WouldBlock}
-use Rattle.record.specs.Record.{area_in}
+use Rattle.record.specs.Record.{area_in, Reply}
 use Rattle.transfer_rules.specs.declared.Verdict.{Verdict}
 use Rattle.transfer_rules.specs.declared.Verdict.TheVariants as verdict
-use Rattle.transfer_rules.specs.Peek.{rx_count, After, after, after_of, leaving, blocked}
-use Rattle.transfer_rules.specs.declared.ReadAnswer.{ReadAnswer}
-use Rattle.transfer_rules.specs.declared.ReadAnswer.TheVariants.{Done, Refused}
-use Rattle.transfer_rules.specs.declared.ReadCalled.{ReadCalled}
+use Rattle.transfer_rules.specs.Peek.{rx_count, After, after, leaving, blocked}
 use Rattle.transfer_rules.specs.ReadZero.{rx_size, read_zero}
 use Rattle.transfer_rules.specs.ReadTests.{tests_in}
-use Rattle.transfer_rules.specs.declared.ReadRan.{ReadRan}
 
 -- all that the call leaves
 pub record ReadOutcome : Type 0 where
-  pub result : ReadCalled
+  pub result : Called (Reply ℕ)
   pub list : List ℕ
   pub buf : List ℕ
 
 -- the same without the parts of the record that no read changes
 pub record ReadLeft : Type 0 where
-  pub answer : ReadAnswer
+  pub answer : Reply ℕ
   pub buf : List ℕ
   pub after : After
 
-abbrev pub read_left : ReadRan → File → List ℕ → List ℕ → ReadLeft
-read_left o w l x = record { answer = o.answer; buf = x; after = after_of o.served w l }
+abbrev pub read_left : Reply ℕ → List ℕ → After → ReadLeft
+read_left a x s = record { answer = a; buf = x; after = s }
 
 abbrev pub outcome : Record → ReadLeft → ReadOutcome
 outcome k t = record { result = record { answer = t.answer; «record» = leaving k t.after; stores = t.after.log.count }; list = t.after.log.list; buf = t.buf }
@@ -59,11 +56,11 @@ got ep x n size c f g = cond (eqb ep 0) (read_zero x n size c f g) (read_other c
 unfoldable pub read_done : Board → ControlState → Flags → ℕ → ℕ → List ℕ → List ℕ → Log → ReadLeft
 read_done b c f size ep x y g =
     let n = rx_count ep g.regs in
-    record { answer = Done n; buf = copied b ep n x y; after = got ep (copied b ep n x y) n size c f (write_index ep g) }
+    record { answer = Ok n; buf = copied b ep n x y; after = got ep (copied b ep n x y) n size c f (write_index ep g) }
 
 -- the whole call. "A refusal returns its number and changes nothing: record, FIFOs, list, caller's buffer."
 abbrev pub refused : Refusal → List ℕ → After → ReadLeft
-refused r x s = record { answer = Refused r; buf = x; after = s }
+refused r x s = record { answer = Err r; buf = x; after = s }
 
 abbrev pub read_by : Verdict → Board → ControlState → Flags → ℕ → ℕ → List ℕ → List ℕ → Log → ReadLeft
 read_by verdict.Clear b c f size ep x y g = read_done b c f size ep x y g

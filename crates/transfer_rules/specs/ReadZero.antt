@@ -1,6 +1,6 @@
 -- The call `read` at endpoint 0, by the control state, its steps in the source's order; and what a read gives back.
 -- Assumes nothing.
-use Rattle.std.specs.Prelude.{ℕ, ◌+◌, ◌*◌, Bool, cond, List, [], ◌∷◌, leb, ltb, eqb, get_or, take}
+use Rattle.std.specs.Prelude.{ℕ, ◌+◌, ◌*◌, Bool, cond, List, [], ◌∷◌, leb, ltb, eqb, get_or, take, Err, Ok}
 use Rattle.board.specs.declared.Direction.TheVariants.{Out}
 use Rattle.csr.specs.declared.Csr0lSet.TheVariants as csr0l
 use Rattle.store_rules.specs.Stores.{Log, modify_csr0l}
@@ -11,19 +11,17 @@ use Rattle.control_state.specs.declared.ControlStateEnum.TheVariants.{Idle, Setu
 use Rattle.endpoints.specs.Endpoints.{blank, size_in}
 use Rattle.record.specs.declared.Flags.{Flags}
 use Rattle.record.specs.declared.Record.{Record}
-use Rattle.record.specs.Record.{refusal_number}
+use Rattle.record.specs.Record.{refusal_number, Reply}
 use Rattle.transfer_rules.specs.Peek.{After, after, ended}
-use Rattle.transfer_rules.specs.declared.ReadAnswer.{ReadAnswer}
-use Rattle.transfer_rules.specs.declared.ReadAnswer.TheVariants.{Done, Refused}
 
 -- document 01's number and values of each answer: "for reads the count then stored bytes"
-abbrev pub read_number : ReadAnswer → ℕ
-read_number (Done n) = 0
-read_number (Refused x) = refusal_number x
+abbrev pub read_number : Reply ℕ → ℕ
+read_number (Ok n) = 0
+read_number (Err x) = refusal_number x
 
-abbrev pub read_values : ReadAnswer → List ℕ → List ℕ
-read_values (Done n) b = n ∷ take n b
-read_values (Refused x) b = []
+abbrev pub read_values : Reply ℕ → List ℕ → List ℕ
+read_values (Ok n) b = n ∷ take n b
+read_values (Err x) b = []
 
 -- the steps --------------------------------------------------------------------------------------------------------------------
 

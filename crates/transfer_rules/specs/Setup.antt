@@ -1,6 +1,6 @@
 -- What a read of a Setup packet leaves, and an empty write in Idle, beside their definitions and apart from them.
 -- Assumes nothing.
-use Rattle.std.specs.Prelude.{ℕ, ◌+◌, ◌*◌, ◌≡◌, Bool, true, false, List, get_or}
+use Rattle.std.specs.Prelude.{ℕ, ◌+◌, ◌*◌, ◌≡◌, Bool, true, false, List, get_or, Ok}
 use Rattle.laws.specs.Words.{bit}
 use Rattle.board.specs.declared.Direction.TheVariants.{Out, In}
 use Rattle.csr.specs.declared.Csr0l.{Csr0l}
@@ -11,7 +11,6 @@ use Rattle.control_state.specs.declared.ControlStateEnum.TheVariants.{DataIn, Da
 use Rattle.record.specs.declared.Flags.{Flags}
 use Rattle.transfer_rules.specs.Peek.{After}
 use Rattle.transfer_rules.specs.Write.{WriteLeft}
-use Rattle.transfer_rules.specs.declared.WriteAnswer.TheVariants.{Done}
 
 -- one store to CSR0L, with DataEnd and ServicedRxPktRdy as told: the other bits as they read
 pub record StoresZero (has_data_end serviced : Bool) (g h : Log) : Type 0 where
@@ -52,4 +51,4 @@ pub record Accepts (c : ControlState) (f : Flags) (x : List ℕ) (g : Log) (o : 
   pub flags : o.after.irq ≡ f
   pub stored : o.after.log ≡ write_index 0 g
   pub fifo : o.fifo ≡ x
-  pub answer : o.answer ≡ Done 0
+  pub answer : o.answer ≡ Ok 0

@@ -1,6 +1,6 @@
 -- What an answered write and an answered read leave, beside their definitions and apart from them: the registers, the list, the bytes.
 -- Assumes nothing.
-use Rattle.std.specs.Prelude.{ℕ, ◌+◌, ◌≤◌, ◌<◌, ◌≡◌, true, false, cond, List, eqb, length, get_or}
+use Rattle.std.specs.Prelude.{ℕ, ◌+◌, ◌≤◌, ◌<◌, ◌≡◌, true, false, cond, List, eqb, length, get_or, Ok}
 use Rattle.board.specs.declared.Direction.{Direction}
 use Rattle.board.specs.declared.Direction.TheVariants.{Out, In}
 use Rattle.csr.specs.declared.Side.{Side}
@@ -11,7 +11,6 @@ use Rattle.record.specs.declared.Record.{Record}
 use Rattle.record.specs.Record.{area_of}
 use Rattle.transfer_rules.specs.Write.{WriteOutcome}
 use Rattle.transfer_rules.specs.Read.{ReadOutcome}
-use Rattle.transfer_rules.specs.declared.ReadAnswer.TheVariants as read
 use Rattle.csr.specs.Kept.{SameBits}
 
 -- all of the record but its registers
@@ -69,7 +68,7 @@ pub record Takes (k : Record) (e : ℕ) (l : List ℕ) (o : ReadOutcome) : Type 
 -- An answered read at any endpoint e (document 02, T-02: "gets all of it"): the buffer has room for the packet, which stands whole at its front, from
 -- e's own receive area; the answer is its length; and the rest of the buffer stays
 pub record Copies (k : Record) (e : ℕ) (buf fifo : List ℕ) (o : ReadOutcome) : Type 0 where
-  pub said : o.result.answer ≡ read.Done (side_at k.regs.words e Out).len
+  pub said : o.result.answer ≡ Ok (side_at k.regs.words e Out).len
   pub fits : (side_at k.regs.words e Out).len ≤ (area_of k e Out).size
   pub room : (side_at k.regs.words e Out).len ≤ length buf
   pub inside : (i : ℕ) → i < (side_at k.regs.words e Out).len → get_or o.buf i 0 ≡ get_or fifo ((area_of k e Out).start + i) 0

@@ -1,6 +1,6 @@
 -- The call `write` at endpoint 0, by the control state, its steps in the source's order; and what a write gives back.
 -- Assumes nothing.
-use Rattle.std.specs.Prelude.{ℕ, cond, List, [], ◌∷◌, ltb, eqb, get_or}
+use Rattle.std.specs.Prelude.{ℕ, cond, List, [], ◌∷◌, ltb, eqb, get_or, Err, Ok}
 use Rattle.laws.specs.Words.{raised}
 use Rattle.board.specs.declared.Direction.TheVariants.{In}
 use Rattle.csr.specs.declared.Csr0lSet.TheVariants as csr0l
@@ -13,19 +13,17 @@ use Rattle.endpoints.specs.declared.EndpointData.{EndpointData}
 use Rattle.endpoints.specs.Endpoints.{blank, size_in}
 use Rattle.record.specs.declared.Flags.{Flags}
 use Rattle.record.specs.declared.Record.{Record}
-use Rattle.record.specs.Record.{refusal_number, with_tx}
+use Rattle.record.specs.Record.{refusal_number, with_tx, Reply}
 use Rattle.transfer_rules.specs.Peek.{After, after, ended}
-use Rattle.transfer_rules.specs.declared.WriteAnswer.{WriteAnswer}
-use Rattle.transfer_rules.specs.declared.WriteAnswer.TheVariants.{Done, Refused}
 
 -- document 01's number and values of each answer
-abbrev pub write_number : WriteAnswer → ℕ
-write_number (Done n) = 0
-write_number (Refused x) = refusal_number x
+abbrev pub write_number : Reply ℕ → ℕ
+write_number (Ok n) = 0
+write_number (Err x) = refusal_number x
 
-abbrev pub write_values : WriteAnswer → List ℕ
-write_values (Done n) = n ∷ []
-write_values (Refused x) = []
+abbrev pub write_values : Reply ℕ → List ℕ
+write_values (Ok n) = n ∷ []
+write_values (Err x) = []
 
 -- the steps --------------------------------------------------------------------------------------------------------------------
 

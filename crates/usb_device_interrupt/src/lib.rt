@@ -2,48 +2,36 @@
 
 #![tactic(auto)]
 
-ghost use Rattle.std.specs.Prelude.{◌≡◌, cond, ◌<◌, ◌≤◌};
+ghost use Rattle.std.specs.Prelude.{◌≡◌, ◌<◌, ◌≤◌};
 ghost use Rattle.laws.specs.Words.{bit};
 ghost use Rattle.event_rules.specs.Events.{bus_bit};
 ghost use Rattle.record.specs.Record.{endpoints_in};
-ghost use Rattle.call_rules.specs.Interrupt.{snapshot_of, cleared, bus_taken, raised_if, endpoint_taken, taken, answer_by, interrupt_call};
+ghost use Rattle.call_rules.specs.Interrupt.{snapshot_of, cleared, bus_taken, raised_if, endpoint_taken, taken, interrupt_call};
 
 use board::{Board, Direction};
 use call_rules::Snapshot;
 use event_rules::BusEvent;
-use record::{Answered, Flags, Record, Refusal, Reply};
-use register_file::Regs;
+use record::{Answered, Flags, Record, Reply};
 
-pub fn on_interrupt(k: Record) -> Answered
+pub fn on_interrupt(k: Record) -> Answered<Reply<()>>
     ensures { result ≡ interrupt_call k }
 {
-    let r = k.regs;
-    let e = k.endpoints;
-    let c = k.control_state;
-    let b = r.board;
-    let mut w = r.words;
-    let ok = record_ops::sound(b, &w, k.irq);
-    let f = interrupt_if(ok, b, &mut w, k.irq);
-    Answered {
-        answer: answer(ok),
-        record: Record {
-            regs: Regs { board: b, words: w },
-            endpoints: e,
-            control_state: c,
-            irq: f,
-        },
+    let mut o = Answered {
+        record: k,
+        answer: Ok(()),
+    };
+    match record_ops::admit(false, k.regs.board, &k.regs.words, k.irq, false) {
+        Ok(()) => o.record.irq = interrupt(k.regs.board, &mut o.record.regs.words, k.irq),
+        Err(x) => o.answer = Err(x),
     }
+    o
 }
 
-// A record that passed reply 16's test is served, and any other left alone.
-fn interrupt_if(ok: bool, b: Board, w: &mut [u16; 46], f: Flags) -> Flags
-    ensures { (result ≡ cond ok (taken (endpoints_in b) (snapshot_of w.old) f) f) × (w.new ≡ cond ok (cleared w.old) w.old) }
+fn interrupt(b: Board, w: &mut [u16; 46], f: Flags) -> Flags
+    ensures { (result ≡ taken (endpoints_in b) (snapshot_of w.old) f) × (w.new ≡ cleared w.old) }
 {
-    if ok {
-        let s = snap(w);
-        return take(record_ops::endpoints(b), s, f);
-    }
-    f
+    let s = snap(w);
+    take(record_ops::endpoints(b), s, f)
 }
 
 fn snap(w: &mut [u16; 46]) -> Snapshot
@@ -108,13 +96,4 @@ fn raise_if(read: u16, flags: u16, index: u8) -> u16
         return laws::raise(flags, index);
     }
     flags
-}
-
-fn answer(ok: bool) -> Reply
-    ensures { result ≡ answer_by ok }
-{
-    if ok {
-        return Reply::Done;
-    }
-    Reply::Refused(Refusal::BadRecord)
 }

@@ -1,60 +1,61 @@
 // `poll` of the source: the overrun check, Reset, Resume, Suspend, and then a round: endpoint 0, and the walk of the receive flags.
 
-#![tactic(auto)]
+#![tactic(auto, using(round_rules::proofs::Poll::admitted), unfolding(round_rules::specs::Round::told, round_rules::specs::Poll::ended, round_rules::specs::Poll::walked_on, round_rules::specs::Poll::accepted_on, round_rules::specs::Poll::round_out, round_rules::specs::Poll::poll_logged, round_rules::specs::Poll::poll_served, round_rules::specs::Poll::poll_admitted, round_rules::specs::Poll::poll_call))]
 
-ghost use Rattle.std.specs.Prelude.{◌≡◌, false, ◌+◌, ◌*◌, ◌≤◌, ◌<◌, length};
+ghost use Rattle.std.specs.Prelude.{◌≡◌, ◌+◌, ◌*◌, ◌≤◌, ◌<◌, length};
 ghost use Rattle.store_rules.specs.Stores.{log};
 ghost use Rattle.round_rules.specs.Round.{told};
-ghost use Rattle.round_rules.specs.Zero.{round_of};
-ghost use Rattle.round_rules.specs.Poll.{outcome, after_of, polled, walked_on, accepted_on, round_out, poll_logged, poll_served, poll_admitted, poll_call};
+ghost use Rattle.round_rules.specs.Poll.{outcome, after_of, round_out, poll_logged, poll_served, poll_admitted, poll_call};
 
 use board::Board;
 use control_state::ControlState;
-use record::{Admission, Flags, Record};
-use register_file::Regs;
-use round_rules::{Masks, PollAnswer, PollCalled, PollRan, PollResult, Progress};
+use record::{Called, Flags, Ran, Record, Reply};
+use round_rules::{Masks, PollResult};
 
-pub fn poll(k: Record, list: &mut [u16]) -> PollCalled
+pub fn poll(k: Record, list: &mut [u16]) -> Called<Reply<PollResult>>
     ensures { outcome result list.new ≡ poll_call k list.old }
 {
-    let r = k.regs;
-    let e = k.endpoints;
-    let b = r.board;
-    let mut w = r.words;
-    let o = admitted(b, &mut w, list, k.control_state, k.irq);
-    let a = o.answer;
-    let c = o.control_state;
-    let f = o.irq;
-    PollCalled {
-        answer: a,
-        record: Record {
-            regs: Regs { board: b, words: w },
-            endpoints: e,
-            control_state: c,
-            irq: f,
-        },
-        stores: o.n,
-    }
+    let mut o = Called {
+        record: k,
+        stores: 0,
+        answer: Ok(PollResult::None),
+    };
+    let ran = admitted(
+        k.regs.board,
+        &mut o.record.regs.words,
+        list,
+        &mut o.record.control_state,
+        &mut o.record.irq,
+    );
+    o.stores = ran.n;
+    o.answer = ran.answer;
+    o
 }
 
-fn admitted(b: Board, w: &mut [u16; 46], list: &mut [u16], c: ControlState, f: Flags) -> PollRan
-    ensures { after_of result w.new list.new ≡ poll_admitted b w.old list.old c f }
+fn admitted(
+    b: Board,
+    w: &mut [u16; 46],
+    list: &mut [u16],
+    c: &mut ControlState,
+    f: &mut Flags,
+) -> Ran<Reply<PollResult>>
+    ensures { after_of result w.new list.new c.new f.new ≡ poll_admitted b w.old list.old c.old f.old }
 {
-    let e = record_ops::admit(list.len() < record_ops::LIST, b, w, f, false);
-    match e {
-        Admission::Refused(x) => PollRan {
-            answer: PollAnswer::Refused(x),
-            n: 0,
-            control_state: c,
-            irq: f,
-        },
-        Admission::Clear => serve(b, w, list, c, f),
+    match record_ops::admit(list.len() < record_ops::LIST, b, w, *f, false) {
+        Ok(()) => serve(b, w, list, c, f),
+        Err(x) => record_ops::refused(x),
     }
 }
 
-fn serve(b: Board, w: &mut [u16; 46], list: &mut [u16], c: ControlState, f: Flags) -> PollRan
-    requires { (f.ep_rx < 64) × (384 ≤ length list.old) }
-    ensures { after_of result w.new list.new ≡ poll_served b (log w.old list.old 0) c f }
+fn serve(
+    b: Board,
+    w: &mut [u16; 46],
+    list: &mut [u16],
+    c: &mut ControlState,
+    f: &mut Flags,
+) -> Ran<Reply<PollResult>>
+    requires { (f.old.ep_rx < 64) × (384 ≤ length list.old) }
+    ensures { after_of result w.new list.new c.new f.new ≡ poll_served b (log w.old list.old 0) c.old f.old }
 {
     let n = overrun::check_overrun(w, list, 0, record_ops::endpoints(b));
     by_flags(w, list, n, c, f)
@@ -62,74 +63,53 @@ fn serve(b: Board, w: &mut [u16; 46], list: &mut [u16], c: ControlState, f: Flag
 
 // Reset, Resume, Suspend, and then a round: each step puts down its own flag. (The source's Suspend step puts down the reset flag and never its own, so
 // that its port stays dead once the laptop has slept: docs/changes/T-06.md.)
-fn by_flags(w: &mut [u16; 46], list: &mut [u16], n: usize, c: ControlState, f: Flags) -> PollRan
-    requires { (f.ep_rx < 64) × (n * 3 + 24 ≤ length list.old) }
-    ensures { after_of result w.new list.new ≡ poll_logged (log w.old list.old n) c f }
+fn by_flags(
+    w: &mut [u16; 46],
+    list: &mut [u16],
+    n: usize,
+    c: &mut ControlState,
+    f: &mut Flags,
+) -> Ran<Reply<PollResult>>
+    requires { (f.old.ep_rx < 64) × (n * 3 + 24 ≤ length list.old) }
+    ensures { after_of result w.new list.new c.new f.new ≡ poll_logged (log w.old list.old n) c.old f.old }
 {
     if f.reset {
-        let mut g = f;
-        g.reset = false;
-        return answer(PollResult::Reset, n, c, g);
+        f.reset = false;
+        return answered(PollResult::Reset, n);
     }
     if f.resume {
-        let mut g = f;
-        g.resume = false;
-        return answer(PollResult::Resume, n, c, g);
+        f.resume = false;
+        return answered(PollResult::Resume, n);
     }
     if f.suspend {
-        let mut g = f;
-        g.suspend = false;
-        return answer(PollResult::Suspend, n, c, g);
+        f.suspend = false;
+        return answered(PollResult::Suspend, n);
     }
     round(w, list, n, c, f)
 }
 
-fn answer(a: PollResult, n: usize, c: ControlState, f: Flags) -> PollRan
-    ensures { result ≡ polled a n c f }
+fn answered(a: PollResult, n: usize) -> Ran<Reply<PollResult>>
+    ensures { result ≡ record { answer = Ok a; n = n } }
 {
-    PollRan {
-        answer: PollAnswer::Done(a),
-        n: n,
-        control_state: c,
-        irq: f,
-    }
+    Ran { answer: Ok(a), n }
 }
 
-fn round(w: &mut [u16; 46], list: &mut [u16], n: usize, c: ControlState, f: Flags) -> PollRan
-    requires { (f.ep_rx < 64) × (n * 3 + 24 ≤ length list.old) }
-    ensures { after_of result w.new list.new ≡ round_out (log w.old list.old n) c f }
+fn round(
+    w: &mut [u16; 46],
+    list: &mut [u16],
+    n: usize,
+    c: &mut ControlState,
+    f: &mut Flags,
+) -> Ran<Reply<PollResult>>
+    requires { (f.old.ep_rx < 64) × (n * 3 + 24 ≤ length list.old) }
+    ensures { after_of result w.new list.new c.new f.new ≡ round_out (log w.old list.old n) c.old f.old }
 {
-    let o = poll_zero::endpoint_zero(w, list, n, c, f);
-    accept_on(w, list, o)
-}
-
-fn accept_on(w: &mut [u16; 46], list: &mut [u16], o: Progress) -> PollRan
-    requires { (o.irq.ep_rx < 64) × (o.n * 3 + 18 ≤ length list.old) }
-    ensures { after_of result w.new list.new ≡ accepted_on (round_of o w.old list.old) }
-{
-    let a = poll_zero::accept(o.control_state, o.irq);
-    let c = a.control_state;
-    let f = a.irq;
-    let p = Progress {
-        n: o.n,
-        control_state: c,
-        irq: f,
-        setup: o.setup,
-    };
-    walk_on(w, list, p)
-}
-
-fn walk_on(w: &mut [u16; 46], list: &mut [u16], o: Progress) -> PollRan
-    requires { (o.irq.ep_rx < 64) × (o.n * 3 + 18 ≤ length list.old) }
-    ensures { after_of result w.new list.new ≡ walked_on (round_of o w.old list.old) }
-{
-    let f = o.irq;
-    let x = poll_walk::walk(f.ep_rx, w, list, o.n);
-    let a = tell(x.out, f.ep_tx, o.setup);
-    let mut g = f;
-    g.ep_tx = 0;
-    g.ep_rx = x.out;
-    answer(a, x.n, o.control_state, g)
+    let (zeroed, setup) = poll_zero::endpoint_zero(w, list, n, c, f);
+    poll_zero::accept(c, f);
+    let walked = poll_walk::walk(&mut f.ep_rx, w, list, zeroed);
+    let a = tell(f.ep_rx, f.ep_tx, setup);
+    f.ep_tx = 0;
+    answered(a, walked)
 }
 
 fn tell(out: u16, sent: u16, setup: bool) -> PollResult
@@ -138,7 +118,7 @@ fn tell(out: u16, sent: u16, setup: bool) -> PollResult
     let m = Masks {
         ep_out: out,
         ep_in_complete: sent,
-        ep_setup: csr_ops::weight(setup, 1),
+        ep_setup: u16::from(setup),
     };
     if (sent != 0) | (out != 0) | setup {
         return PollResult::Data(m);

@@ -5,91 +5,79 @@
 
 #![tactic(auto)]
 
-ghost use Rattle.std.specs.Prelude.{◌≡◌, true, ◌<◌, ◌+◌, ◌*◌, ◌≤◌, length, get_or};
+ghost use Rattle.std.specs.Prelude.{◌≡◌, ◌+◌, ◌*◌, ◌≤◌, length, get_or};
 ghost use Rattle.transfer_rules.specs.ReadTests.{unreadable_in, not_readable, not_setup_in, not_setup, overflows, own_tests_at, tests_in};
 ghost use Rattle.store_rules.specs.Stores.{log};
-ghost use Rattle.transfer_rules.specs.Peek.{after_of, rx_count};
-ghost use Rattle.transfer_rules.specs.ReadZero.{w_length, way_in, after_setup, set_up, data_out, zero_by, read_zero};
+ghost use Rattle.transfer_rules.specs.Peek.{after, rx_count};
+ghost use Rattle.transfer_rules.specs.ReadZero.{w_length, way_in, after_setup, set_up, data_out, read_zero};
 ghost use Rattle.board.specs.declared.Direction.TheVariants.{Out};
-ghost use Rattle.record.specs.Record.{area_in, need_in, passes};
-ghost use Rattle.transfer_rules.specs.Read.{read_left, copied, read_other, got, read_done, read_in, read_call};
+ghost use Rattle.record.specs.Record.{area_in, need_in};
+ghost use Rattle.record.specs.declared.Flags.{Flags};
+ghost use Rattle.transfer_rules.specs.Read.{read_left, copied, got, read_done, read_in, read_call};
 
 use board::{Board, Direction};
 use control_state::{ControlState, ControlStateEnum};
-use csr::{Csr0lSet, RxcsrlSet};
-use record::{Admission, Flags, Record, Refusal};
-use register_file::Regs;
-use transfer_rules::{ReadAnswer, ReadCalled, ReadRan, Served, Verdict};
+use csr::{Csr0l, Csr0lSet, Rxcsrl, RxcsrlSet};
+use record::{Called, Flags, Ran, Record, Refusal, Reply};
+use transfer_rules::Verdict;
 
-pub fn read(k: Record, ep: u8, buf: &mut [u8], fifo: &[u8], list: &mut [u16]) -> ReadCalled
+#[tactic(auto, unfolding(transfer_rules::specs::Read::read_call, transfer_rules::specs::ReadZero::rx_size))]
+pub fn read(
+    k: Record,
+    ep: u8,
+    buf: &mut [u8],
+    fifo: &[u8],
+    list: &mut [u16],
+) -> Called<Reply<usize>>
     ensures { record { result = result; list = list.new; buf = buf.new } ≡ read_call k ep buf.old fifo.now list.old }
 {
-    let r = k.regs;
-    let e = k.endpoints;
-    let zero = e[0];
-    let conf = zero.ep_conf;
-    let b = r.board;
-    let mut w = r.words;
-    let o = read_by(
-        b,
-        &mut w,
+    let size = usize::from(k.endpoints[0].ep_conf.rx_max_packet_size);
+    let mut o = Called {
+        record: k,
+        stores: 0,
+        answer: Ok(0),
+    };
+    let ran = read_by(
+        k.regs.board,
+        &mut o.record.regs.words,
         list,
-        k.control_state,
+        &mut o.record.control_state,
         k.irq,
-        conf.rx_max_packet_size as usize,
+        size,
         ep,
         buf,
         fifo,
     );
-    let s = o.served;
-    let a = o.answer;
-    let c = s.control_state;
-    let f = s.irq;
-    ReadCalled {
-        answer: a,
-        record: Record {
-            regs: Regs { board: b, words: w },
-            endpoints: e,
-            control_state: c,
-            irq: f,
-        },
-        stores: s.n,
-    }
+    o.stores = ran.n;
+    o.answer = ran.answer;
+    o
 }
 
-// By what the tests came to. `size` is endpoint 0's recorded receive size.
+// By what the tests came to. `size` is endpoint 0's recorded receive size. No read changes the flags.
+#[tactic(auto, unfolding(transfer_rules::specs::Read::read_in, transfer_rules::specs::Peek::blocked))]
 fn read_by(
     b: Board,
     w: &mut [u16; 46],
     list: &mut [u16],
-    c: ControlState,
+    c: &mut ControlState,
     f: Flags,
     size: usize,
     ep: u8,
     buf: &mut [u8],
     fifo: &[u8],
-) -> ReadRan
-    ensures { read_left result w.new list.new buf.new ≡ read_in b w.old c f size ep buf.old fifo.now list.old }
+) -> Ran<Reply<usize>>
+    ensures { read_left result.answer buf.new (after c.new f (log w.new list.new result.n)) ≡ read_in b w.old c.old f size ep buf.old fifo.now list.old }
 {
-    let v = refusal(b, w, c, f, ep, buf.len(), fifo.len(), list.len());
-    match v {
-        Verdict::Clear => take(b, w, list, ep, c, f, size, buf, fifo),
-        Verdict::Blocked => ReadRan {
-            answer: ReadAnswer::Refused(Refusal::WouldBlock),
-            served: peek::block(w, list, ep, c, f),
-        },
-        Verdict::Refused(x) => ReadRan {
-            answer: ReadAnswer::Refused(x),
-            served: Served {
-                n: 0,
-                control_state: c,
-                irq: f,
-            },
-        },
+    match refusal(b, w, *c, f, ep, buf.len(), fifo.len(), list.len()) {
+        Verdict::Clear => take(b, w, list, ep, c, size, buf, fifo),
+        Verdict::Blocked => peek::block(w, list, ep),
+        Verdict::Refused(x) => record_ops::refused(x),
     }
 }
 
 // Every test, before anything changes: 15, 16, 8, then 6, 12, 13, 18.
+// (The write's twin but for its own tests: a function of both, in between, cost each 6 to 12 instructions. docs/DECISIONS.md.)
+#[tactic(auto, unfolding(transfer_rules::specs::ReadTests::tests_in))]
 fn refusal(
     b: Board,
     w: &[u16; 46],
@@ -102,20 +90,20 @@ fn refusal(
 ) -> Verdict
     ensures { result ≡ tests_in b w.now c f ep room fifo list }
 {
-    let a = record_ops::admit(
+    match record_ops::admit(
         peek::is_short(b, fifo, list),
         b,
         w,
         f,
         record_ops::endpoints(b) <= ep,
-    );
-    match a {
-        Admission::Clear => own_tests_at(w, c, ep, room),
-        Admission::Refused(x) => Verdict::Refused(x),
+    ) {
+        Ok(()) => own_tests_at(w, c, ep, room),
+        Err(x) => Verdict::Refused(x),
     }
 }
 
 // Read's own tests, in their order: 6, 12, 13, 18.
+#[tactic(auto, unfolding(transfer_rules::specs::ReadTests::own_tests_at))]
 fn own_tests_at(w: &[u16; 46], c: ControlState, ep: u8, room: usize) -> Verdict
     ensures { result ≡ own_tests_at w.now c ep room }
 {
@@ -134,32 +122,25 @@ fn own_tests_at(w: &[u16; 46], c: ControlState, ep: u8, room: usize) -> Verdict
     Verdict::Clear
 }
 
+#[tactic(auto, unfolding(transfer_rules::specs::ReadTests::not_readable))]
 fn not_readable(c: ControlState, ep: u8) -> bool
     ensures { result ≡ not_readable c ep }
 {
-    let s = c.state;
-    (ep == 0) & unreadable_in(s)
+    (ep == 0) & unreadable_in(c.state)
 }
 
 // The source panics in these states.
 fn unreadable_in(s: ControlStateEnum) -> bool
     ensures { result ≡ unreadable_in s }
 {
-    match s {
-        ControlStateEnum::Idle => true,
-        ControlStateEnum::Setup => false,
-        ControlStateEnum::DataIn => true,
-        ControlStateEnum::DataOut => false,
-        ControlStateEnum::Accepted => true,
-        ControlStateEnum::NodataPhase => true,
-    }
+    !matches!(s, ControlStateEnum::Setup | ControlStateEnum::DataOut)
 }
 
+#[tactic(auto, unfolding(transfer_rules::specs::ReadTests::not_setup))]
 fn not_setup(w: &[u16; 46], c: ControlState, ep: u8, room: usize) -> bool
     ensures { result ≡ not_setup w.now c ep room }
 {
-    let s = c.state;
-    (ep == 0) & not_setup_in(s, regs::waiting_len(w, ep, Direction::Out), room)
+    (ep == 0) & not_setup_in(c.state, regs::waiting_len(w, ep, Direction::Out), room)
 }
 
 // The source asserts a count of 8, and panics where the buffer has no byte 7.
@@ -167,48 +148,45 @@ fn not_setup_in(s: ControlStateEnum, n: u16, room: usize) -> bool
     ensures { result ≡ not_setup_in s n room }
 {
     match s {
-        ControlStateEnum::Idle => false,
-        ControlStateEnum::Setup => !(n == 8) | (room < 8),
-        ControlStateEnum::DataIn => false,
-        ControlStateEnum::DataOut => false,
-        ControlStateEnum::Accepted => false,
-        ControlStateEnum::NodataPhase => false,
+        ControlStateEnum::Setup => (n != 8) | (room < 8),
+        _ => false,
     }
 }
 
 // Has the buffer no room for all of the packet? The source would cut it, and say its whole length.
+#[tactic(auto, unfolding(transfer_rules::specs::ReadTests::overflows))]
 fn overflows(w: &[u16; 46], ep: u8, room: usize) -> bool
     ensures { result ≡ overflows w.now ep room }
 {
-    room < regs::waiting_len(w, ep, Direction::Out) as usize
+    room < usize::from(regs::waiting_len(w, ep, Direction::Out))
 }
 
+#[tactic(auto, unfolding(transfer_rules::specs::Read::read_done))]
 fn take(
     b: Board,
     w: &mut [u16; 46],
     list: &mut [u16],
     ep: u8,
-    c: ControlState,
-    f: Flags,
+    c: &mut ControlState,
     size: usize,
     buf: &mut [u8],
     fifo: &[u8],
-) -> ReadRan
-    requires { (passes b w.old f ≡ true) × (need_in b ≤ length fifo.now) × (384 ≤ length list.old) × (rx_count ep w.old ≤ length buf.old) }
-    ensures { read_left result w.new list.new buf.new ≡ read_done b c f size ep buf.old fifo.now (log w.old list.old 0) }
+) -> Ran<Reply<usize>>
+    requires { (rx_count ep w.old ≤ (area_in b ep Out).size) × (need_in b ≤ length fifo.now) × (384 ≤ length list.old) × (rx_count ep w.old ≤ length buf.old) }
+    ensures { (f : Flags) → read_left result.answer buf.new (after c.new f (log w.new list.new result.n)) ≡ read_done b c.old f size ep buf.old fifo.now (log w.old list.old 0) }
 {
     // as it was tested: the selection changes no count
-    let count = regs::waiting_len(w, ep, Direction::Out) as usize;
+    let count = usize::from(regs::waiting_len(w, ep, Direction::Out));
     let n = stores::write_index(w, list, 0, ep);
     fetch(b, ep, count, buf, fifo);
-    let s = serve(w, list, n, ep, c, f, count, size, buf);
-    ReadRan {
-        answer: ReadAnswer::Done(count),
-        served: s,
+    Ran {
+        answer: Ok(count),
+        n: serve(w, list, n, ep, c, count, size, buf),
     }
 }
 
 // The packet that waits, all n bytes of it.
+#[tactic(auto, unfolding(transfer_rules::specs::Read::copied))]
 fn fetch(b: Board, ep: u8, n: usize, buf: &mut [u8], fifo: &[u8])
     requires { (n ≤ (area_in b ep Out).size) × (need_in b ≤ length fifo.now) × (n ≤ length buf.old) }
     ensures { buf.new ≡ copied b ep n buf.old fifo.now }
@@ -217,90 +195,73 @@ fn fetch(b: Board, ep: u8, n: usize, buf: &mut [u8], fifo: &[u8])
     fifo::take_bytes(fifo, area, n, buf);
 }
 
-// The packet is in the buffer, and is dropped.
+// The packet is in the buffer, and is dropped: the endpoint is free for the next.
+#[tactic(auto, unfolding(transfer_rules::specs::Read::got, transfer_rules::specs::Read::read_other))]
 fn serve(
     w: &mut [u16; 46],
     list: &mut [u16],
     n: usize,
     ep: u8,
-    c: ControlState,
-    f: Flags,
+    c: &mut ControlState,
     count: usize,
     size: usize,
     buf: &[u8],
-) -> Served
+) -> usize
     requires { n * 3 + 6 ≤ length list.old }
-    ensures { after_of result w.new list.new ≡ got ep buf.now count size c f (log w.old list.old n) }
+    ensures { (f : Flags) → after c.new f (log w.new list.new result) ≡ got ep buf.now count size c.old f (log w.old list.old n) }
 {
     if ep == 0 {
-        return read_zero(w, list, n, c, f, count, size, buf);
+        return read_zero(w, list, n, c, count, size, buf);
     }
-    read_other(w, list, n, c, f)
+    stores::modify::<Rxcsrl>(w, list, n, RxcsrlSet::NoRxPktRdy)
 }
 
-// The packet is in the buffer: the endpoint is free for the next.
+// Endpoint 0, by its state. Of the last four none comes here: they are refused before.
+#[tactic(auto, unfolding(transfer_rules::specs::ReadZero::read_zero))]
 fn read_zero(
     w: &mut [u16; 46],
     list: &mut [u16],
     n: usize,
-    c: ControlState,
-    f: Flags,
+    c: &mut ControlState,
     count: usize,
     size: usize,
     buf: &[u8],
-) -> Served
+) -> usize
     requires { n * 3 + 6 ≤ length list.old }
-    ensures { after_of result w.new list.new ≡ read_zero buf.now count size c f (log w.old list.old n) }
+    ensures { (f : Flags) → after c.new f (log w.new list.new result) ≡ read_zero buf.now count size c.old f (log w.old list.old n) }
 {
-    let m = stores::modify_csr0l(w, list, n, Csr0lSet::ServicedRxPktRdy);
-    zero_by(w, list, m, c, f, count, size, buf)
-}
-
-// Endpoint 0, by its state. Of the last four none comes here: they are refused before.
-fn zero_by(
-    w: &mut [u16; 46],
-    list: &mut [u16],
-    n: usize,
-    c: ControlState,
-    f: Flags,
-    count: usize,
-    size: usize,
-    buf: &[u8],
-) -> Served
-    requires { n * 3 + 3 ≤ length list.old }
-    ensures { after_of result w.new list.new ≡ zero_by c.state buf.now count size c f (log w.old list.old n) }
-{
-    let s = c.state;
-    match s {
-        ControlStateEnum::Setup => set_up(w, list, n, c, f, buf),
-        ControlStateEnum::DataOut => data_out(w, list, n, c, f, count, size),
-        ControlStateEnum::Idle => leave(n, c, f),
-        ControlStateEnum::DataIn => leave(n, c, f),
-        ControlStateEnum::Accepted => leave(n, c, f),
-        ControlStateEnum::NodataPhase => leave(n, c, f),
+    let m = stores::modify::<Csr0l>(w, list, n, Csr0lSet::ServicedRxPktRdy);
+    match c.state {
+        ControlStateEnum::Setup => set_up(w, list, m, c, buf),
+        ControlStateEnum::DataOut => data_out(w, list, m, c, count, size),
+        _ => m,
     }
 }
 
-fn set_up(
-    w: &mut [u16; 46],
-    list: &mut [u16],
-    n: usize,
-    c: ControlState,
-    f: Flags,
-    buf: &[u8],
-) -> Served
+#[tactic(auto, unfolding(transfer_rules::specs::ReadZero::set_up, transfer_rules::specs::Peek::ended))]
+fn set_up(w: &mut [u16; 46], list: &mut [u16], n: usize, c: &mut ControlState, buf: &[u8]) -> usize
     requires { n * 3 + 3 ≤ length list.old }
-    ensures { after_of result w.new list.new ≡ set_up buf.now c f (log w.old list.old n) }
+    ensures { (f : Flags) → after c.new f (log w.new list.new result) ≡ set_up buf.now c.old f (log w.old list.old n) }
 {
-    let to_host = way_in(buf);
     let length = w_length(buf);
     if length == 0 {
-        return peek::end(w, list, n, c.set_state(ControlStateEnum::NodataPhase), f);
+        *c = c.set_state(ControlStateEnum::NodataPhase);
+        return peek::end(w, list, n);
     }
-    leave(n, after_setup(c, to_host, length), f)
+    *c = after_setup(*c, way_in(buf), length);
+    n
+}
+
+// w_length, low byte first.
+#[tactic(auto, unfolding(transfer_rules::specs::ReadZero::w_length))]
+fn w_length(buf: &[u8]) -> u16
+    ensures { result ≡ w_length buf.now }
+{
+    u16::from_le_bytes([byte_at(buf, 6), byte_at(buf, 7)])
 }
 
 // The direction bit of the request's first byte.
+#[tactic(auto, unfolding(transfer_rules::specs::ReadZero::way_in))]
 fn way_in(buf: &[u8]) -> bool
     ensures { result ≡ way_in buf.now }
 {
@@ -308,37 +269,10 @@ fn way_in(buf: &[u8]) -> bool
 }
 
 // A byte of the buffer; 0 where it is too short, which it is not in Setup.
-fn byte_at(buf: &[u8], i: usize) -> u16
-    ensures { (result ≡ get_or buf.now i 0) × (result < 256) }
+fn byte_at(buf: &[u8], i: usize) -> u8
+    ensures { result ≡ get_or buf.now i 0 }
 {
-    if i < buf.len() {
-        return wide(buf[i]);
-    }
-    0
-}
-
-fn wide(x: u8) -> u16
-    ensures { (result ≡ x) × (result < 256) }
-{
-    x as u16
-}
-
-// w_length, low byte first.
-fn w_length(buf: &[u8]) -> u16
-    ensures { result ≡ w_length buf.now }
-{
-    byte_at(buf, 6) + byte_at(buf, 7) * 256
-}
-
-// No store more.
-fn leave(n: usize, c: ControlState, f: Flags) -> Served
-    ensures { result ≡ record { n = n; control_state = c; irq = f } }
-{
-    Served {
-        n: n,
-        control_state: c,
-        irq: f,
-    }
+    buf.get(i).copied().unwrap_or(0)
 }
 
 // The control state after a Setup packet that announces data.
@@ -346,39 +280,29 @@ fn after_setup(c: ControlState, to_host: bool, n: u16) -> ControlState
     ensures { result ≡ after_setup c to_host n }
 {
     if to_host {
-        let d = c.set_state(ControlStateEnum::DataIn);
-        return d.set_tx_len(n as u32);
+        return c
+            .set_state(ControlStateEnum::DataIn)
+            .set_tx_len(u32::from(n));
     }
     c.set_state(ControlStateEnum::DataOut)
 }
 
 // Was the packet the last? It has `count` bytes, and `size` is endpoint 0's recorded receive size.
+#[tactic(auto, unfolding(transfer_rules::specs::ReadZero::data_out, transfer_rules::specs::Peek::ended))]
 fn data_out(
     w: &mut [u16; 46],
     list: &mut [u16],
     n: usize,
-    c: ControlState,
-    f: Flags,
+    c: &mut ControlState,
     count: usize,
     size: usize,
-) -> Served
+) -> usize
     requires { n * 3 + 3 ≤ length list.old }
-    ensures { after_of result w.new list.new ≡ data_out count size c f (log w.old list.old n) }
+    ensures { (f : Flags) → after c.new f (log w.new list.new result) ≡ data_out count size c.old f (log w.old list.old n) }
 {
     if count < size {
-        return peek::end(w, list, n, c.set_state(ControlStateEnum::Idle), f);
+        *c = c.set_state(ControlStateEnum::Idle);
+        return peek::end(w, list, n);
     }
-    leave(n, c, f)
-}
-
-fn read_other(w: &mut [u16; 46], list: &mut [u16], n: usize, c: ControlState, f: Flags) -> Served
-    requires { n * 3 + 3 ≤ length list.old }
-    ensures { after_of result w.new list.new ≡ read_other c f (log w.old list.old n) }
-{
-    let m = stores::modify_rxcsrl(w, list, n, RxcsrlSet::NoRxPktRdy);
-    Served {
-        n: m,
-        control_state: c,
-        irq: f,
-    }
+    n
 }

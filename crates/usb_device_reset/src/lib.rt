@@ -2,75 +2,54 @@
 
 #![tactic(auto)]
 
-ghost use Rattle.std.specs.Prelude.{◌≡◌, ◌+◌, ◌*◌, ◌≤◌, ◌<◌, length, false};
+ghost use Rattle.std.specs.Prelude.{◌≡◌, ◌+◌, ◌*◌, ◌≤◌, ◌<◌, length};
 ghost use Rattle.store_rules.specs.Stores.{log};
-ghost use Rattle.record.specs.Record.{list_need};
-ghost use Rattle.call_rules.specs.Calls.{left};
-ghost use Rattle.call_rules.specs.Reset.{tx_enabled, rx_enabled, used_enabled, enabled_below, reset_in, reset_ran, reset_call};
+ghost use Rattle.call_rules.specs.Reset.{tx_enabled, rx_enabled, used_enabled, enabled_below, reset_call};
 
-use board::Board;
-use call_rules::{Called, Ran};
-use control_state::ControlState;
 use endpoints::EndpointData;
-use record::{Admission, Flags, Record};
+use record::{Called, Record, Reply};
 
-pub fn reset(k: Record, list: &mut [u16]) -> Called
+pub fn reset(k: Record, list: &mut [u16]) -> Called<Reply<()>>
     ensures { record { call = result; list = list.new } ≡ reset_call k list.old }
 {
-    let r = k.regs;
-    let b = r.board;
-    let mut w = r.words;
-    let e = k.endpoints;
-    let c = k.control_state;
-    let f = k.irq;
-    let o = run_reset(b, &mut w, list, c, f, e);
-    usb_device_impl::finish(k, w, o)
-}
-
-fn run_reset(
-    b: Board,
-    w: &mut [u16; 46],
-    list: &mut [u16],
-    c: ControlState,
-    f: Flags,
-    e: [EndpointData; 6],
-) -> Ran
-    ensures { left result w.new list.new ≡ reset_ran b c f e (log w.old list.old 0) }
-{
-    let t = usb_device_impl::admit(list.len(), b, w, f, false);
-    match t {
-        Admission::Refused(x) => usb_device_impl::refuse(x, c),
-        Admission::Clear => {
-            let n = reset_stores(b, w, list, e);
-            usb_device_impl::done(n, usb_device_impl::idle(c))
+    let mut o = Called {
+        record: k,
+        stores: 0,
+        answer: Ok(()),
+    };
+    match usb_device_impl::admit(list.len(), &k, false) {
+        Ok(()) => {
+            let w = &mut o.record.regs.words;
+            let n = stores::write_power(w, list, 0);
+            o.stores = enable_below(
+                w,
+                list,
+                n,
+                &k.endpoints,
+                record_ops::endpoints(k.regs.board),
+            );
+            o.record.control_state = usb_device_impl::idle(k.control_state);
         }
+        Err(x) => o.answer = Err(x),
     }
-}
-
-fn reset_stores(b: Board, w: &mut [u16; 46], list: &mut [u16], e: [EndpointData; 6]) -> usize
-    requires { list_need ≤ length list.old }
-    ensures { log w.new list.new result ≡ reset_in b e (log w.old list.old 0) }
-{
-    let n = stores::write_power(w, list, 0);
-    enable_below(w, list, n, e, record_ops::endpoints(b))
+    o
 }
 
 // Every endpoint below count, lowest first.
+// (By number: it is the endpoint's, and goes on with its entry.)
 fn enable_below(
     w: &mut [u16; 46],
     list: &mut [u16],
     n: usize,
-    endpoints: [EndpointData; 6],
+    endpoints: &[EndpointData; 6],
     count: u8,
 ) -> usize
     requires { (count ≤ 6) × (n * 3 + 252 ≤ length list.old) }
-    ensures { log w.new list.new result ≡ enabled_below endpoints count (log w.old list.old n) }
+    ensures { log w.new list.new result ≡ enabled_below endpoints.now count (log w.old list.old n) }
 {
     let mut m = n;
     for index in 0..count {
-        let i = index as usize;
-        let ep = endpoints[i];
-        m = enable_used(w, list, m, index, ep);
+        m = enable_used(w, list, m, index, endpoints[index as usize]);
     }
     m
 }
@@ -83,13 +62,13 @@ fn enable_used(w: &mut [u16; 46], list: &mut [u16], n: usize, index: u8, ep: End
     enable_rx(w, list, a, index, ep)
 }
 
+// (Twins, an `if` and a call each: by direction it would be matched twice, for the mark and for the source's name.)
 fn enable_tx(w: &mut [u16; 46], list: &mut [u16], n: usize, index: u8, ep: EndpointData) -> usize
     requires { (index < 16) × (n * 3 + 21 ≤ length list.old) }
     ensures { (log w.new list.new result ≡ tx_enabled index ep (log w.old list.old n)) × (result ≤ n + 7) }
 {
     if ep.used_tx {
-        let config = ep.ep_conf;
-        return enabling::ep_tx_enable(w, list, n, index, config);
+        return enabling::ep_tx_enable(w, list, n, index, ep.ep_conf);
     }
     n
 }
@@ -99,8 +78,7 @@ fn enable_rx(w: &mut [u16; 46], list: &mut [u16], n: usize, index: u8, ep: Endpo
     ensures { (log w.new list.new result ≡ rx_enabled index ep (log w.old list.old n)) × (result ≤ n + 7) }
 {
     if ep.used_rx {
-        let config = ep.ep_conf;
-        return enabling::ep_rx_enable(w, list, n, index, config);
+        return enabling::ep_rx_enable(w, list, n, index, ep.ep_conf);
     }
     n
 }

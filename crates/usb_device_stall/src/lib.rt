@@ -5,15 +5,12 @@
 ghost use Rattle.std.specs.Prelude.{◌≡◌, ◌+◌, ◌*◌, ◌≤◌, length};
 ghost use Rattle.store_rules.specs.Stores.{log, write_index};
 ghost use Rattle.common_rules.specs.Common.{is_stalled};
-ghost use Rattle.call_rules.specs.Calls.{left};
-ghost use Rattle.call_rules.specs.Stall.{ep_stall, after_stall, set_stalled_ran, set_stalled_call, stalled_left, is_stalled_ran, is_stalled_call};
+ghost use Rattle.call_rules.specs.Stall.{ep_stall, after_stall, set_stalled_call, is_stalled_call};
 
-use board::{Board, Direction};
-use call_rules::{Called, Ran, StalledAnswer, StalledCalled, StalledRan};
+use board::Direction;
 use common_rules::Stalled;
 use control_state::ControlState;
-use record::{Admission, Flags, Record};
-use register_file::Regs;
+use record::{Called, Record, Reply};
 
 pub fn set_stalled(
     k: Record,
@@ -21,40 +18,25 @@ pub fn set_stalled(
     direction: Direction,
     stalled: bool,
     list: &mut [u16],
-) -> Called
+) -> Called<Reply<()>>
     ensures { record { call = result; list = list.new } ≡ set_stalled_call k ep direction stalled list.old }
 {
-    let r = k.regs;
-    let b = r.board;
-    let mut w = r.words;
-    let c = k.control_state;
-    let f = k.irq;
-    let o = run_set_stalled(b, &mut w, list, c, f, ep, direction, stalled);
-    usb_device_impl::finish(k, w, o)
-}
-
-fn run_set_stalled(
-    b: Board,
-    w: &mut [u16; 46],
-    list: &mut [u16],
-    c: ControlState,
-    f: Flags,
-    ep: u8,
-    direction: Direction,
-    stalled: bool,
-) -> Ran
-    ensures { left result w.new list.new ≡ set_stalled_ran b c f ep direction stalled (log w.old list.old 0) }
-{
-    let t = usb_device_impl::admit_at(list.len(), b, w, f, ep);
-    match t {
-        Admission::Refused(x) => usb_device_impl::refuse(x, c),
-        Admission::Clear => {
-            let n = ep_stall(w, list, 0, ep, direction, stalled);
-            usb_device_impl::done(n, after_stall(c, ep, stalled))
+    let mut o = Called {
+        record: k,
+        stores: 0,
+        answer: Ok(()),
+    };
+    match usb_device_impl::admit_at(list.len(), &k, ep) {
+        Ok(()) => {
+            o.stores = ep_stall(&mut o.record.regs.words, list, 0, ep, direction, stalled);
+            o.record.control_state = after_stall(k.control_state, ep, stalled);
         }
+        Err(x) => o.answer = Err(x),
     }
+    o
 }
 
+// The direction goes to the source's two names, here and in `ep_is_stalled`.
 fn ep_stall(
     w: &mut [u16; 46],
     list: &mut [u16],
@@ -82,53 +64,23 @@ fn after_stall(c: ControlState, index: u8, stalled: bool) -> ControlState
     c
 }
 
-pub fn is_stalled(k: Record, ep: u8, direction: Direction, list: &mut [u16]) -> StalledCalled
+pub fn is_stalled(k: Record, ep: u8, direction: Direction, list: &mut [u16]) -> Called<Reply<bool>>
     ensures { record { call = result; list = list.new } ≡ is_stalled_call k ep direction list.old }
 {
-    let r = k.regs;
-    let b = r.board;
-    let mut w = r.words;
-    let e = k.endpoints;
-    let c = k.control_state;
-    let f = k.irq;
-    let o = run_is_stalled(b, &mut w, list, f, ep, direction);
-    let a = o.answer;
-    StalledCalled {
-        answer: a,
-        record: Record {
-            regs: Regs { board: b, words: w },
-            endpoints: e,
-            control_state: c,
-            irq: f,
-        },
-        stores: o.n,
-    }
-}
-
-fn run_is_stalled(
-    b: Board,
-    w: &mut [u16; 46],
-    list: &mut [u16],
-    f: Flags,
-    ep: u8,
-    direction: Direction,
-) -> StalledRan
-    ensures { stalled_left result w.new list.new ≡ is_stalled_ran b f ep direction (log w.old list.old 0) }
-{
-    let t = usb_device_impl::admit_at(list.len(), b, w, f, ep);
-    match t {
-        Admission::Refused(x) => StalledRan {
-            answer: StalledAnswer::Refused(x),
-            n: 0,
-        },
-        Admission::Clear => {
-            let o = ep_is_stalled(w, list, 0, ep, direction);
-            StalledRan {
-                answer: StalledAnswer::Done(o.stalled),
-                n: o.n,
-            }
+    let mut o = Called {
+        record: k,
+        stores: 0,
+        answer: Ok(false),
+    };
+    match usb_device_impl::admit_at(list.len(), &k, ep) {
+        Ok(()) => {
+            let told = ep_is_stalled(&mut o.record.regs.words, list, 0, ep, direction);
+            o.stores = told.n;
+            o.answer = Ok(told.stalled);
         }
+        Err(x) => o.answer = Err(x),
     }
+    o
 }
 
 fn ep_is_stalled(

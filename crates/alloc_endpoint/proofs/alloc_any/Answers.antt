@@ -12,12 +12,6 @@ loop-i-init c = rw c.endpoints-count.ensures
 pub check_at-requires : goal.check_at-requires
 check_at-requires c = omega (arith, at_most_six c.args.board)
 
-pub overflow_add-i : goal.overflow_add-i
-overflow_add-i c = omega arith
-
-pub loop-i-smaller : goal.loop-i-smaller
-loop-i-smaller c = omega arith
-
 pub returns-then-is_ok : goal.returns-then-is_ok
 returns-then-is_ok c = search (stops, rules)
 

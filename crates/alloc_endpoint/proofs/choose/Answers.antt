@@ -2,8 +2,8 @@
 -- Assumes nothing.
 use Rattle.alloc_endpoint.proofs.choose.Goals as goal
 
-pub returns-in-Number : goal.returns-in-Number
-returns-in-Number c = rw c.in-Number.is c.alloc_wanted.ensures
+pub returns-in-Some : goal.returns-in-Some
+returns-in-Some c = rw c.in-Some.is c.alloc_wanted.ensures
 
-pub returns-in-Any : goal.returns-in-Any
-returns-in-Any c = rw c.in-Any.is c.alloc_any.ensures
+pub returns-in-None : goal.returns-in-None
+returns-in-None c = rw c.in-None.is c.alloc_any.ensures

@@ -5,18 +5,8 @@ use Rattle.board.proofs.sizes_of.Goals as goal
 pub loop-n-init : goal.loop-n-init
 loop-n-init c = size_first c.args.t
 
-pub bounds-s-n : goal.bounds-s-n
-bounds-s-n c = omega arith
-
-pub bounds-s-n-in-loop-n : goal.bounds-s-n-in-loop-n
-bounds-s-n-in-loop-n c = omega arith
-
-pub loop-n-smaller : goal.loop-n-smaller
-loop-n-smaller c = omega arith
-
 pub loop-n-preserved : goal.loop-n-preserved
-loop-n-preserved c = size_next c.args.t _ _ _ _ c.loop-n.invariant (omega arith)
-    c.room.ensures c.room-in-loop-n.ensures
+loop-n-preserved c = size_next c.args.t _ _ _ _ c.loop-n.invariant (omega arith) c.room.ensures c.room-in-loop-n.ensures
 
 pub returns : goal.returns
 returns c = size_last c.args.t _ _ c.loop-n.invariant (omega arith)

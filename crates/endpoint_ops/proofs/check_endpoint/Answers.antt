@@ -4,8 +4,8 @@ use Rattle.endpoints.proofs.Check.{too_big, lacking, in_use_lem, passing}
 use borrow.Author.Rules.{rules}
 use Rattle.endpoint_ops.proofs.check_endpoint.Goals as goal
 
-pub returns-then-max_packet_size-row : goal.returns-then-max_packet_size-row
-returns-then-max_packet_size-row c = search (too_big, rules)
+pub returns-then-ask-row : goal.returns-then-ask-row
+returns-then-ask-row c = search (too_big, rules)
 
 pub returns-then-not-row_has : goal.returns-then-not-row_has
 returns-then-not-row_has c = search (lacking, rules)

@@ -1,10 +1,13 @@
 -- `host::miss_if` meets its contract. Assumes nothing.
+use Rattle.std.proofs.lemmas.Result.{err_from_is_err_and}
 use Rattle.host_rules.proofs.Host.{refusing, leaving, doing, changing}
 use borrow.Author.Rules.{rules}
 use Rattle.host.proofs.miss_if.Goals as goal
 
-pub returns-in-Refused : goal.returns-in-Refused
-returns-in-Refused c = (search (refusing, rules), search (leaving, rules))
+pub returns-in_err-miss_refusal : goal.returns-in_err-miss_refusal
+returns-in_err-miss_refusal c =
+    let p = err_from_is_err_and c.from_residual.result c.from_residual.ensures.1 in
+    rw (p.1, p.2) (search (refusing, rules), search (leaving, rules))
 
-pub returns-in-Clear : goal.returns-in-Clear
-returns-in-Clear c = (search (doing, rules), search (changing, rules))
+pub returns : goal.returns
+returns c = (search (doing, rules), search (changing, rules))

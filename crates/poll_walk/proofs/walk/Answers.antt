@@ -1,31 +1,29 @@
+-- `poll_walk::walk` meets its contract. Assumes nothing.
+use mathlib.Core.Path.{refl}
 use native.Mathlib.Omega.{arith}
-use borrow.Author.Rules.{rules}
+use Rattle.laws.proofs.Tests.{when_true, when_false}
 use Rattle.round_rules.specs.Walk.{walked}
 use Rattle.round_rules.proofs.Walk.{drained_selected, visited}
-use Rattle.round_rules.proofs.Turns.{begin, turn, fits, done}
+use Rattle.round_rules.proofs.Turns.{begin, turn, done}
 use Rattle.poll_walk.proofs.walk.Goals as goal
 
-pub loop-rest-init : goal.loop-rest-init
-loop-rest-init c = begin _ _ c.requires.0 c.requires.0
+pub loop-e-init : goal.loop-e-init
+loop-e-init c = rw c.into_iter-e-iterator.ensures.into_iter_gives (begin _ _ c.requires.0 c.requires.0)
 
-pub lowest-e-requires : goal.lowest-e-requires
-lowest-e-requires c = (omega arith, search rules)
+pub loop-e-preserved-then-not-waits : goal.loop-e-preserved-then-not-waits
+loop-e-preserved-then-not-waits c =
+    let a = c.write_index-m in
+    let s = c.in-Some.ensures.steps in
+    let drained = drained_selected _ c.loop-e.flags _ _ a.ensures.0 c.waits.ensures (when_false {b = c.waits.result} _ _ (cc) c.without.ensures.0) in
+    turn _ _ _ _ _ _ _ c.loop-e.invariant s.0 s.1 (visited _ _ _ a.ensures.0 drained) a.ensures.1 c.without.ensures.1 (omega arith)
 
-pub write_index-m-requires : goal.write_index-m-requires
-write_index-m-requires c = fits _ _ _ _ _ c.loop-rest.invariant c.lowest-e.ensures c.requires.1
-
-pub drain-out-requires : goal.drain-out-requires
-drain-out-requires c = let w = c.loop-rest.invariant in (w.small, c.lowest-e.ensures.below, w.under)
-
-pub loop-rest-smaller : goal.loop-rest-smaller
-loop-rest-smaller c = omega (arith, c.without-rest.ensures.0, c.lowest-e.ensures.less)
-
-pub loop-rest-preserved : goal.loop-rest-preserved
-loop-rest-preserved c = let a = c.write_index-m in let drained = drained_selected _ _ _ _ a.ensures.0 c.waits.ensures c.drain-out.ensures.0 in turn _ _ _ _ _ _ _ c.loop-rest.invariant c.lowest-e.ensures c.without-rest.ensures.0 (visited _ _ _ a.ensures.0 drained) a.ensures.1 c.drain-out.ensures.1 (omega arith)
-
-pub shape_of-list : goal.shape_of-list
-shape_of-list c = c.loop-rest.invariant.long
+pub loop-e-preserved : goal.loop-e-preserved
+loop-e-preserved c =
+    let a = c.write_index-m in
+    let s = c.in-Some.ensures.steps in
+    let drained = drained_selected c.args.flags.now c.loop-e.flags _ _ a.ensures.0 c.waits.ensures (when_true {b = c.waits.result} _ _ (cc) refl) in
+    turn _ _ _ _ _ _ _ c.loop-e.invariant s.0 s.1 (visited _ _ _ a.ensures.0 drained) a.ensures.1 c.loop-e.invariant.under (omega arith)
 
 pub returns : goal.returns
 unfolding walked
-returns c = done _ _ _ _ c.loop-rest.invariant c.loop-rest-test.false
+returns c = done _ _ _ _ c.loop-e.invariant c.in-None.ensures.steps

@@ -4,8 +4,5 @@ use Rattle.round_rules.specs.Walk.{walk}
 use Rattle.round_rules.proofs.Turns.{Walking}
 use Rattle.poll_walk.proofs.walk.Given as goal
 
-abbrev pub invariant-loop-rest : goal.invariant-loop-rest
-invariant-loop-rest l = Walking l.flags (walk (log l.initial.w l.initial.list l.initial.m) l.initial.out) (walk (log l.w l.list l.m) l.out) l.rest
-
-abbrev pub decreases-loop-rest : goal.decreases-loop-rest
-decreases-loop-rest l = l.rest
+abbrev pub invariant-loop-e : goal.invariant-loop-e
+invariant-loop-e l = Walking l.first (walk (log l.initial.w l.initial.list l.initial.m) l.first) (walk (log l.w l.list l.m) l.flags) l.e-iterator.bits

@@ -1,10 +1,6 @@
 use Rattle.register_file.specs.Sound.{sides_below}
 use mathlib.Core.Path.{◌≡◌}
-use Prim.Native.Nat.{◌≤◌, ◌-◌}
 use Rattle.regs.proofs.sides_sound.Given as goal
 
 abbrev pub invariant-loop-i : goal.invariant-loop-i
-invariant-loop-i l = (l.ok ≡ sides_below l.sizes l.w l.i) × (l.i ≤ 12)
-
-abbrev pub decreases-loop-i : goal.decreases-loop-i
-decreases-loop-i l = 12 - l.i
+invariant-loop-i l = l.ok ≡ sides_below l.sizes l.w l.i

@@ -1,19 +1,14 @@
-use Rattle.register_file.proofs.Soundness.{words_next, words_none}
-use Rattle.register_file.specs.Sound.{words_below}
+use Rattle.std.proofs.Common.{◌<◌, drop, length-take, sym, arith}
+use Rattle.std.proofs.Math.Seq.{get_or-take, get_or-drop}
 use Rattle.laws.specs.Tests.{◌also◌}
-use native.Mathlib.Omega.{arith}
-use mathlib.Core.Path.{◌≡◌, ap, sym, ◌∙◌}
+use Rattle.register_file.proofs.Soundness.{words_next, words_none}
 use Rattle.regs.proofs.words_sound.Goals as goal
 
-pub loop-i-init : goal.loop-i-init
-loop-i-init c = (sym (words_none _), omega arith)
+pub loop-c-init : goal.loop-c-init
+loop-c-init c = sym (words_none _)
 
-pub loop-i-smaller : goal.loop-i-smaller
-loop-i-smaller c = omega arith
-
-pub loop-i-preserved : goal.loop-i-preserved
+pub loop-c-preserved : goal.loop-c-preserved
 unfolding ◌also◌
-loop-i-preserved c = (cc (words_next c.args.w.now c.loop-i.i), omega arith)
-
-pub returns : goal.returns
-returns c = let e : c.loop-i.i ≡ 12 = omega (arith, c.loop-i.invariant.1) in c.loop-i.invariant.0 ∙ ap (words_below _) e
+loop-c-preserved c = let w = c.args.w.now in let i = c.loop-c.c-index in
+    let h : i < 12 = omega (arith, simp length-take at c.loop-c-test.true) in
+    cc (words_next w i, get_or-take 12 (drop 10 w) i 0 h, get_or-drop 10 w i 0)

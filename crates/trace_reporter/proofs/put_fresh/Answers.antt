@@ -1,12 +1,12 @@
 -- `trace_reporter::put_fresh` meets its contract.
 -- Assumes nothing.
+use Rattle.std.specs.Prelude.{IfOk}
+use Rattle.std.specs.Io.KnownBytes.{Appends}
+use Rattle.std.proofs.lemmas.Result.{on_ok_weaker, on_err_weaker}
 use Prim.Native.Nat.{ℕ}
 use mathlib.Core.Path.{◌≡◌, subst}
 use mathlib.Core.List.{List}
 use lib.ListN.{length}
-use Rattle.std.specs.Prelude.{IfOk}
-use Rattle.std.specs.Io.KnownBytes.{Appends}
-use Rattle.std.proofs.lemmas.Result.{on_ok_weaker, on_err_weaker}
 use Rattle.trace_reporter.specs.Told.{AppendsFront}
 use Rattle.trace_reporter.proofs.Reaching.{fresh_report, fresh_detailed}
 use Rattle.trace_reporter.proofs.put_fresh.Goals as goal

@@ -1,9 +1,11 @@
 -- `trace_reporter::put_report` meets its contract.
 -- Assumes nothing.
+use Rattle.std.specs.Io.KnownBytes.{Appends}
+use Prim.Native.Nat.{ℕ}
 use native.Mathlib.Omega.{arith}
 use mathlib.Core.Path.{subst}
 use borrow.Author.Rules.{rules}
-use Rattle.std.specs.Io.KnownBytes.{Appends}
+use lib.ListN.{length-take}
 use Rattle.trace_rules.proofs.Appended.{front}
 use Rattle.trace_rules.specs.Lines.{bad_line}
 use Rattle.report_rules.specs.Report.{beginning}
@@ -15,13 +17,13 @@ use Rattle.trace_reporter.proofs.put_report.Goals as goal
 pub put-requires : goal.put-requires
 put-requires g c =
     let e = c.header_line-len.ensures in
-    (search rules, omega (arith, e.upper_bound), from_front _ _ _ e.wrote (omega (arith, e.upper_bound, c.line_buffer-line.ensures)) (begins_with _ _))
+    (omega (arith, e.upper_bound, length-take {A = ℕ}), from_front _ _ _ e.wrote (omega (arith, e.upper_bound, c.line_buffer-line.ensures)) (begins_with _ _))
 
 pub put_last-requires : goal.put_last-requires
 unfolding bad_line
 put_last-requires g c =
     let e = c.header_line-len.ensures in
-    (search rules, omega (arith, e.upper_bound, c.put.ensures.place), too_long_here _ _ e.wrote c.put.ensures.place c.if-trace-gt65536.true)
+    (search rules, omega (arith, e.upper_bound, c.put.ensures.place, length-take {A = ℕ}), too_long_here _ _ e.wrote (omega (arith, e.upper_bound, c.put.ensures.place, c.line_buffer-line.ensures, length-take {A = ℕ})) c.if-trace-gt65536.true)
 
 pub returns-in_err-put_last-clause-left : goal.returns-in_err-put_last-clause-left
 returns-in_err-put_last-clause-left g c =

@@ -1,7 +1,7 @@
 -- `trace_reporter::write_whole` meets its contract.
 -- Assumes nothing.
-use native.Mathlib.Omega.{arith}
 use Rattle.std.proofs.KnownBytes.{Appends-kept}
+use native.Mathlib.Omega.{arith}
 use Rattle.trace_reporter.proofs.Reaching.{took_more}
 use Rattle.trace_reporter.proofs.write_whole.Goals.{in-Ok, in-Err+else-ne}
 use Rattle.trace_reporter.proofs.write_whole.Goals as goal

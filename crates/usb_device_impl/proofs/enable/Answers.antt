@@ -1,7 +1,17 @@
 -- `usb_device_impl::enable` meets its contract. Assumes nothing.
-use Rattle.call_rules.proofs.Calls.{enabled}
+use native.Mathlib.Omega.{arith}
 use borrow.Author.Rules.{rules}
+use Rattle.call_rules.specs.Calls.{enable_call}
+use Rattle.call_rules.proofs.Calls.{refusing, doing}
 use Rattle.usb_device_impl.proofs.enable.Goals as goal
 
-pub returns : goal.returns
-returns c = search (enabled, rules)
+pub write_faddr-requires : goal.write_faddr-requires
+write_faddr-requires c = omega (arith, c.admit.ensures.1 c.in-Ok.is)
+
+pub returns-in-Err : goal.returns-in-Err
+unfolding enable_call
+returns-in-Err c = search (refusing, rules)
+
+pub returns-in-Ok : goal.returns-in-Ok
+unfolding enable_call
+returns-in-Ok c = search (doing, rules)

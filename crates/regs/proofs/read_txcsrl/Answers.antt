@@ -1,6 +1,0 @@
-use Rattle.register_file.specs.Registers.{index}
-use Rattle.regs.proofs.read_txcsrl.Goals as goal
-
-pub returns : goal.returns
-unfolding index
-returns c = cc
