@@ -11,7 +11,7 @@ ghost use Rattle.call_rules.specs.Alloc.{alloc_left, alloc_ran, alloc_ep_call};
 use board::{Board, Direction};
 use call_rules::AllocRefusal;
 use endpoints::{Ask, EndpointData, EndpointType};
-use record::{Answered, Record};
+use record::{Answered, Record, Refusal};
 
 // The source's polling interval goes nowhere and is left out.
 pub fn alloc_ep(
@@ -32,10 +32,11 @@ pub fn alloc_ep(
         record: k,
         answer: Ok(0),
     };
-    match record_ops::admit(false, k.regs.board, &k.regs.words, k.irq, false) {
-        Ok(()) => o.answer = allocate(k.regs.board, &mut o.record.endpoints, ep_addr, ask),
-        Err(x) => o.answer = Err(AllocRefusal::Refused(x)),
+    if !record_ops::sound(k.regs.board, &k.regs.words, k.irq) {
+        o.answer = Err(AllocRefusal::Refused(Refusal::BadRecord));
+        return o;
     }
+    o.answer = allocate(k.regs.board, &mut o.record.endpoints, ep_addr, ask);
     o
 }
 

@@ -11,7 +11,7 @@ ghost use Rattle.call_rules.specs.Interrupt.{snapshot_of, cleared, bus_taken, ra
 use board::{Board, Direction};
 use call_rules::Snapshot;
 use event_rules::BusEvent;
-use record::{Answered, Flags, Record, Reply};
+use record::{Answered, Flags, Record, Refusal, Reply};
 
 pub fn on_interrupt(k: Record) -> Answered<Reply<()>>
     ensures { result ≡ interrupt_call k }
@@ -20,10 +20,11 @@ pub fn on_interrupt(k: Record) -> Answered<Reply<()>>
         record: k,
         answer: Ok(()),
     };
-    match record_ops::admit(false, k.regs.board, &k.regs.words, k.irq, false) {
-        Ok(()) => o.record.irq = interrupt(k.regs.board, &mut o.record.regs.words, k.irq),
-        Err(x) => o.answer = Err(x),
+    if !record_ops::sound(k.regs.board, &k.regs.words, k.irq) {
+        o.answer = Err(Refusal::BadRecord);
+        return o;
     }
+    o.record.irq = interrupt(k.regs.board, &mut o.record.regs.words, k.irq);
     o
 }
 

@@ -1,10 +1,14 @@
 -- `usb_device_alloc::alloc_ep` meets its contract. Assumes nothing.
+use mathlib.Core.Path.{refl, sym, ap, ◌∙◌}
+use mathlib.Core.Bool.{Bool, false}
+use Rattle.record.specs.Record.{admission_by}
 use Rattle.call_rules.proofs.Alloc.{not_allowed, allocating}
-use borrow.Author.Rules.{rules}
 use Rattle.usb_device_alloc.proofs.alloc_ep.Goals as goal
 
-pub returns-in-Err : goal.returns-in-Err
-returns-in-Err c = search (not_allowed, rules)
+pub returns-then-not-sound : goal.returns-then-not-sound
+returns-then-not-sound c =
+    not_allowed c.args.k _ _ refl (ap (λ (b : Bool). admission_by false b false) (sym c.sound.ensures ∙ c.if-not-sound.true))
 
-pub returns-in-Ok : goal.returns-in-Ok
-returns-in-Ok c = search (allocating, rules)
+pub returns : goal.returns
+returns c =
+    allocating c.args.k _ _ refl (ap (λ (b : Bool). admission_by false b false) (sym c.sound.ensures ∙ c.if-not-sound.false)) c.allocate-o.ensures
