@@ -40,7 +40,7 @@ pub fn write_csrl(
             let v = Rxcsrl {
                 send_stall: stall,
                 clr_data_tog: toggle,
-                ..Rxcsrl::default()
+                ..Rxcsrl::zeros()
             };
             stores::write(w, list, n, v)
         }
@@ -48,7 +48,7 @@ pub fn write_csrl(
             let v = Txcsrl {
                 send_stall: stall,
                 clr_data_tog: toggle,
-                ..Txcsrl::default()
+                ..Txcsrl::zeros()
             };
             stores::write(w, list, n, v)
         }
@@ -90,7 +90,7 @@ fn stall_csr0l(w: &mut [u16; 46], list: &mut [u16], n: usize, stall: bool, servi
     let v = Csr0l {
         send_stall: stall,
         serviced_rx_pkt_rdy: serviced,
-        ..Csr0l::default()
+        ..Csr0l::zeros()
     };
     stores::write(w, list, n, v)
 }

@@ -6,7 +6,7 @@
 
 ghost use Rattle.std.specs.Prelude.{◌≡◌, ℕ, ◌+◌, ◌*◌, ◌≤◌, ◌<◌, length};
 ghost use Rattle.board.specs.declared.Direction.TheVariants.{Out, In};
-ghost use Rattle.csr.specs.Control.{csr0l_number, txcsrl_number, rxcsrl_number, txcsrl_of, rxcsrl_of, csr0l_set, txcsrl_set, rxcsrl_set};
+ghost use Rattle.csr.specs.Control.{zero_csr0l, zero_txcsrl, zero_rxcsrl, csr0l_number, txcsrl_number, rxcsrl_number, txcsrl_of, rxcsrl_of, csr0l_set, txcsrl_set, rxcsrl_set};
 ghost use Rattle.register_file.specs.Registers.{File, chosen, enabled_of, with_enabled};
 ghost use Rattle.register_file.specs.Control.{csr0l_read, csr0l_stored};
 ghost use Rattle.store_rules.specs.Stores.{Log, log, listing, with_own, write_faddr, write_power, write_index, write_csr0l, write_txcsrl, write_rxcsrl, modify_csr0l, modify_txcsrl, modify_rxcsrl, flush_csr0h, write_iso, write_maxp, write_intrusbe, write_intre, modify_intre, write_packet};
@@ -75,6 +75,8 @@ pub trait Control: Copy {
 
     ghost REGISTER: { ℕ };
 
+    ghost zeros: { Self };
+
     ghost number: { Self → ℕ };
 
     ghost part: { File → Self.Part };
@@ -88,6 +90,10 @@ pub trait Control: Copy {
     ghost write: { Self → Log → Log };
 
     ghost modify: { Self.Set → Log → Log };
+
+    // What the source's `write` starts from: each bit 0.
+    fn zeros() -> Self
+        ensures { result ≡ zeros };
 
     // What the list has of it. (No `From`: an impl of std's trait stands with its type, in `csr`, and what weighs the bits stands above it, in csr_ops.)
     fn number(self) -> u16
@@ -127,6 +133,8 @@ impl Control for Csr0l {
 
     ghost REGISTER = { 4 };
 
+    ghost zeros = { zero_csr0l };
+
     ghost number = { csr0l_number };
 
     ghost part = { csr0l_read };
@@ -144,6 +152,10 @@ impl Control for Csr0l {
     ghost listed = { csr0l_listed };
 
     ghost modified = { csr0l_modified };
+
+    fn zeros() -> Csr0l {
+        Csr0l::default()
+    }
 
     #[tactic(auto, unfolding(csr::specs::Control::csr0l_number))]
     fn number(self) -> u16 {
@@ -216,6 +228,8 @@ impl Control for Txcsrl {
 
     ghost REGISTER = { 6 };
 
+    ghost zeros = { zero_txcsrl };
+
     ghost number = { txcsrl_number };
 
     ghost part = { λ r. chosen r In };
@@ -233,6 +247,10 @@ impl Control for Txcsrl {
     ghost listed = { txcsrl_listed };
 
     ghost modified = { txcsrl_modified };
+
+    fn zeros() -> Txcsrl {
+        Txcsrl::default()
+    }
 
     #[tactic(auto, unfolding(csr::specs::Control::txcsrl_number))]
     fn number(self) -> u16 {
@@ -296,6 +314,8 @@ impl Control for Rxcsrl {
 
     ghost REGISTER = { 7 };
 
+    ghost zeros = { zero_rxcsrl };
+
     ghost number = { rxcsrl_number };
 
     ghost part = { λ r. chosen r Out };
@@ -313,6 +333,10 @@ impl Control for Rxcsrl {
     ghost listed = { rxcsrl_listed };
 
     ghost modified = { rxcsrl_modified };
+
+    fn zeros() -> Rxcsrl {
+        Rxcsrl::default()
+    }
 
     #[tactic(auto, unfolding(csr::specs::Control::rxcsrl_number))]
     fn number(self) -> u16 {
