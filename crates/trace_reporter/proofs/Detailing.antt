@@ -3,7 +3,7 @@
 use Rattle.std.specs.Prelude.{Option}
 use Rattle.std.specs.Io.KnownBytes.{Appends}
 use Rattle.std.proofs.KnownBytes.{Appends-nil, Appends-trans}
-use Prim.Native.Nat.{ℕ, suc, ◌+◌, ◌≤◌, ◌<◌}
+use Prim.Native.Nat.{ℕ, zero, suc, ◌+◌, ◌≤◌, ◌<◌}
 use native.Mathlib.Numerals.{add-one}
 use mathlib.Core.Path.{◌≡◌, refl, sym, ap, subst, ◌∙◌}
 use mathlib.Core.List.{List, [], ◌++◌, append_assoc}
@@ -11,7 +11,9 @@ use borrow.Author.Tests.{le-leb, lt-leb}
 use lib.ListN.{length, take}
 use Rattle.trace_rules.specs.Lines.{header, end_line, bad_line}
 use Rattle.trace_rules.specs.declared.Entry.{Entry}
-use Rattle.trace_rules.specs.declared.Parsed.TheVariants.{Found}
+use Rattle.trace_rules.specs.declared.Parsed.{Parsed}
+use Rattle.trace_rules.specs.declared.Parsed.TheVariants.{Found, End, Bad}
+use Rattle.trace_rules.specs.Entries.{entry_at}
 use Rattle.report_rules.specs.Act.{State, state, acted}
 use Rattle.report_rules.specs.declared.Came.TheVariants as came
 use Rattle.report_rules.specs.declared.Stepped.{Stepped}
@@ -19,9 +21,20 @@ use Rattle.report_rules.specs.Report.{line_of, nothing, report_by, report_from, 
 use Rattle.report_rules.proofs.Whole.{step_line, step_end, step_bad}
 use Rattle.trace_reporter.specs.Detailed.{details, under, detailed_rest, detailed_for}
 
--- with nothing under the lines it is the report: after an entry's line stands the report from the next place on
-pub bare : (most : ℕ) (s : List ℕ) (at n : ℕ) (x : State) → report_from (λ y stores. []) most s at n x ≡ report_from nothing most s at n x
-bare most s at n x = refl
+-- with nothing under the lines, whatever puts nothing there, it is the report: after an entry's line stands the report from the next place on
+pub bare : (u : State → ℕ → List ℕ) → ((y : State) (stores : ℕ) → u y stores ≡ []) → (most : ℕ) (s : List ℕ) (at n : ℕ) (x : State)
+    → report_from u most s at n x ≡ report_from nothing most s at n x
+unfolding report_from
+bare u none zero s at n x = refl
+bare u none (suc most) s at n x = go (λ past y. bare u none most s past (suc n) y) (entry_at s at)
+  where
+    go : ((past : ℕ) (y : State) → report_from u most s past (suc n) y ≡ report_from nothing most s past (suc n) y) → (p : Parsed)
+        → report_by u (λ past y. report_from u most s past (suc n) y) s at n x p ≡ report_by nothing (λ past y. report_from nothing most s past (suc n) y) s at n x p
+    go rest (Found e past) =
+        let o = acted s e x in
+        ap (λ (l : List ℕ). line_of e o ++ l) (ap (λ (l : List ℕ). l ++ report_from u most s past (suc n) o.state) (none o.state o.stores) ∙ rest past o.state)
+    go rest End = refl
+    go rest Bad = refl
 
 pub bare_line : (rest : ℕ → State → List ℕ) (s : List ℕ) (at n : ℕ) (x : State) (e : Entry) (past : ℕ)
     → report_by nothing rest s at n x (Found e past) ≡ line_of e (acted s e x) ++ rest past (acted s e x).state
