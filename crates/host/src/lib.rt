@@ -15,6 +15,7 @@ use board::{Board, Direction, Span};
 use event_rules::BusEvent;
 use host_rules::Signal;
 use record::{Answered, Flags, Record, Refusal, Reply};
+use register_file::Regs;
 
 // The events have the names of docs/CALLS.md, a line each: four over `on_signal`, `underrun` and `overrun` over `miss`.
 pub fn bus_reset(k: Record) -> Answered<Reply<()>>
@@ -26,12 +27,15 @@ pub fn bus_reset(k: Record) -> Answered<Reply<()>>
 fn on_signal(k: Record, o: Signal) -> Answered<Reply<()>>
     ensures { result ≡ unless (admission_by false (record_sound k) false) k (signalled o k.regs.words) }
 {
-    let mut a = Answered {
-        record: k,
-        answer: Ok(()),
-    };
-    a.answer = signal_if(k.regs.board, &mut a.record.regs.words, k.irq, o);
-    a
+    let mut w = k.regs.words;
+    let answer = signal_if(k.regs.board, &mut w, k.irq, o);
+    Answered {
+        record: Record {
+            regs: Regs { words: w, ..k.regs },
+            ..k
+        },
+        answer,
+    }
 }
 
 // 16 alone can refuse it.
@@ -79,12 +83,15 @@ pub fn underrun(k: Record, ep: u8) -> Answered<Reply<()>>
 fn miss(k: Record, ep: u8, d: Direction) -> Answered<Reply<()>>
     ensures { result ≡ miss_call k ep d }
 {
-    let mut a = Answered {
-        record: k,
-        answer: Ok(()),
-    };
-    a.answer = miss_if(k.regs.board, &mut a.record.regs.words, k.irq, ep, d);
-    a
+    let mut w = k.regs.words;
+    let answer = miss_if(k.regs.board, &mut w, k.irq, ep, d);
+    Answered {
+        record: Record {
+            regs: Regs { words: w, ..k.regs },
+            ..k
+        },
+        answer,
+    }
 }
 
 fn miss_if(b: Board, w: &mut [u16; 46], f: Flags, ep: u8, d: Direction) -> Reply<()>
@@ -111,19 +118,15 @@ pub fn overrun(k: Record, ep: u8) -> Answered<Reply<()>>
 pub fn arrival(k: Record, ep: u8, bytes: &[u8], fifo: &mut [u8]) -> Answered<Reply<()>>
     ensures { record { event = result; fifo = fifo.new } ≡ arrival_call k ep bytes.now fifo.old }
 {
-    let mut a = Answered {
-        record: k,
-        answer: Ok(()),
-    };
-    a.answer = arrive_if(
-        k.regs.board,
-        &mut a.record.regs.words,
-        k.irq,
-        ep,
-        bytes,
-        fifo,
-    );
-    a
+    let mut w = k.regs.words;
+    let answer = arrive_if(k.regs.board, &mut w, k.irq, ep, bytes, fifo);
+    Answered {
+        record: Record {
+            regs: Regs { words: w, ..k.regs },
+            ..k
+        },
+        answer,
+    }
 }
 
 fn arrive_if(
@@ -181,18 +184,15 @@ fn admit(b: Board, w: &[u16; 46], f: Flags, ep: u8, memory: usize) -> Reply<()>
 pub fn collection(k: Record, ep: u8, fifo: &[u8]) -> Answered<Reply<Span>>
     ensures { (result ≡ collection_call k ep fifo.now) × InBuffer result.answer fifo.now }
 {
-    let mut a = Answered {
-        record: k,
-        answer: Ok(Span { start: 0, size: 0 }),
-    };
-    a.answer = collect_if(
-        k.regs.board,
-        &mut a.record.regs.words,
-        k.irq,
-        ep,
-        fifo.len(),
-    );
-    a
+    let mut w = k.regs.words;
+    let answer = collect_if(k.regs.board, &mut w, k.irq, ep, fifo.len());
+    Answered {
+        record: Record {
+            regs: Regs { words: w, ..k.regs },
+            ..k
+        },
+        answer,
+    }
 }
 
 fn collect_if(b: Board, w: &mut [u16; 46], f: Flags, ep: u8, memory: usize) -> Reply<Span>
@@ -213,7 +213,7 @@ fn collection_refusal(b: Board, w: &[u16; 46], f: Flags, ep: u8, memory: usize) 
     Err(Refusal::OutOfTurn)
 }
 
-// The place is asked before the packet is dropped.
+// The length is asked before the packet is dropped; where it lies is the board's to say.
 fn collect(b: Board, w: &mut [u16; 46], ep: u8) -> Span
     requires { ep < 6 }
     ensures { (Ok result ≡ packet_in b w.old ep) × (w.new ≡ collected w.old ep) }

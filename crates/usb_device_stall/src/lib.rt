@@ -1,17 +1,20 @@
 // The calls `set_stalled` and `is_stalled` of the source's usb_device_impl/mod.rs.
 
-#![tactic(auto)]
+#![tactic(auto, unfolding(record::specs::Record::record_sound, record::specs::Record::endpoints_of))]
 
-ghost use Rattle.std.specs.Prelude.{◌≡◌, ◌+◌, ◌*◌, ◌≤◌, length};
+ghost use Rattle.std.specs.Prelude.{◌≡◌, ◌+◌, ◌*◌, ◌≤◌, length, leb, ltb, Ok};
+ghost use Rattle.record.specs.Record.{passes, endpoints_in, admission_by, list_need};
 ghost use Rattle.store_rules.specs.Stores.{log, write_index};
 ghost use Rattle.common_rules.specs.Common.{is_stalled};
 ghost use Rattle.call_rules.specs.Stall.{ep_stall, after_stall, set_stalled_call, is_stalled_call};
 
-use board::Direction;
+use board::{Board, Direction};
 use common_rules::Stalled;
 use control_state::ControlState;
-use record::{Called, Record, Reply};
+use record::{Called, Flags, Ran, Record, Reply};
+use register_file::Regs;
 
+#[inline(never)]
 pub fn set_stalled(
     k: Record,
     ep: u8,
@@ -21,22 +24,45 @@ pub fn set_stalled(
 ) -> Called<Reply<()>>
     ensures { record { call = result; list = list.new } ≡ set_stalled_call k ep direction stalled list.old }
 {
-    let mut o = Called {
-        record: k,
-        stores: 0,
-        answer: Ok(()),
-    };
-    match usb_device_impl::admit_at(list.len(), &k, ep) {
+    let mut w = k.regs.words;
+    let mut c = k.control_state;
+    let ran = match admit_at(list.len(), k.regs.board, &w, k.irq, ep) {
         Ok(()) => {
-            o.stores = ep_stall(&mut o.record.regs.words, list, 0, ep, direction, stalled);
-            o.record.control_state = after_stall(k.control_state, ep, stalled);
+            c = after_stall(c, ep, stalled);
+            Ran {
+                answer: Ok(()),
+                n: ep_stall(&mut w, list, 0, ep, direction, stalled),
+            }
         }
-        Err(x) => o.answer = Err(x),
+        Err(x) => record_ops::refused(x),
+    };
+    Called {
+        record: Record {
+            regs: Regs { words: w, ..k.regs },
+            control_state: c,
+            ..k
+        },
+        stores: ran.n,
+        answer: ran.answer,
     }
-    o
 }
 
-// The direction goes to the source's two names, here and in `ep_is_stalled`.
+// The tests that come first in a call at an endpoint. (As `usb_device_impl::admit_at`, lent the registers that are changed later: lent the record, it is copied once more.)
+fn admit_at(numbers: usize, b: Board, w: &[u16; 46], f: Flags, ep: u8) -> Reply<()>
+    ensures { (result ≡ admission_by (ltb numbers list_need) (passes b w.now f) (leb (endpoints_in b) ep)) × (result ≡ Ok tt → list_need ≤ numbers) }
+{
+    record_ops::admit(
+        numbers < record_ops::LIST,
+        b,
+        w,
+        f,
+        record_ops::endpoints(b) <= ep,
+    )
+}
+
+// The direction goes to the source's two names, here and in `ep_is_stalled`. Out of line: built in, its words are spread over registers, and a stall takes half as much
+// again (docs/DESIGN-PASS.md).
+#[inline(never)]
 fn ep_stall(
     w: &mut [u16; 46],
     list: &mut [u16],
@@ -64,23 +90,29 @@ fn after_stall(c: ControlState, index: u8, stalled: bool) -> ControlState
     c
 }
 
+#[inline(never)]
 pub fn is_stalled(k: Record, ep: u8, direction: Direction, list: &mut [u16]) -> Called<Reply<bool>>
     ensures { record { call = result; list = list.new } ≡ is_stalled_call k ep direction list.old }
 {
-    let mut o = Called {
-        record: k,
-        stores: 0,
-        answer: Ok(false),
-    };
-    match usb_device_impl::admit_at(list.len(), &k, ep) {
+    let mut w = k.regs.words;
+    let ran = match admit_at(list.len(), k.regs.board, &w, k.irq, ep) {
         Ok(()) => {
-            let told = ep_is_stalled(&mut o.record.regs.words, list, 0, ep, direction);
-            o.stores = told.n;
-            o.answer = Ok(told.stalled);
+            let told = ep_is_stalled(&mut w, list, 0, ep, direction);
+            Ran {
+                answer: Ok(told.stalled),
+                n: told.n,
+            }
         }
-        Err(x) => o.answer = Err(x),
+        Err(x) => record_ops::refused(x),
+    };
+    Called {
+        record: Record {
+            regs: Regs { words: w, ..k.regs },
+            ..k
+        },
+        stores: ran.n,
+        answer: ran.answer,
     }
-    o
 }
 
 fn ep_is_stalled(

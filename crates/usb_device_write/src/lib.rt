@@ -20,6 +20,7 @@ use control_state::{ControlState, ControlStateEnum};
 use csr::{Csr0l, Csr0lSet, Txcsrl, TxcsrlSet};
 use endpoints::EndpointData;
 use record::{Called, Flags, Ran, Record, Refusal, Reply};
+use register_file::Regs;
 use transfer_rules::Verdict;
 
 #[tactic(auto, unfolding(transfer_rules::specs::Write::write_call, transfer_rules::specs::WriteZero::tx_size))]
@@ -33,25 +34,30 @@ pub fn write(
     ensures { record { result = result; fifo = fifo.new; list = list.new } ≡ write_call k ep bytes.now fifo.old list.old }
 {
     let size = tx_size(&k.endpoints);
-    let mut o = Called {
-        record: k,
-        stores: 0,
-        answer: Ok(0),
-    };
+    let mut w = k.regs.words;
+    let mut c = k.control_state;
+    let mut f = k.irq;
     let ran = write_by(
         k.regs.board,
-        &mut o.record.regs.words,
+        &mut w,
         list,
-        &mut o.record.control_state,
-        &mut o.record.irq,
+        &mut c,
+        &mut f,
         size,
         ep,
         bytes,
         fifo,
     );
-    o.stores = ran.n;
-    o.answer = ran.answer;
-    o
+    Called {
+        record: Record {
+            regs: Regs { words: w, ..k.regs },
+            control_state: c,
+            irq: f,
+            ..k
+        },
+        stores: ran.n,
+        answer: ran.answer,
+    }
 }
 
 // Endpoint 0's recorded transmit size.

@@ -1,17 +1,11 @@
 -- `usb_device_stall::is_stalled` meets its contract. Assumes nothing.
-use native.Mathlib.Omega.{arith}
 use borrow.Author.Rules.{rules}
+use Rattle.record.specs.Record.{record_sound, endpoints_of}
 use Rattle.call_rules.specs.Stall.{is_stalled_call}
 use Rattle.call_rules.proofs.Stall.{not_telling, telling}
 use Rattle.usb_device_stall.proofs.is_stalled.Goals as goal
+use Rattle.usb_device_stall.proofs.is_stalled.Goals.{in-Ok, in-Err}
 
-pub ep_is_stalled-told-requires : goal.ep_is_stalled-told-requires
-ep_is_stalled-told-requires c = omega (arith, c.admit_at.ensures.1 c.in-Ok.is)
-
-pub returns-in-Err : goal.returns-in-Err
-unfolding is_stalled_call
-returns-in-Err c = search (not_telling, rules)
-
-pub returns-in-Ok : goal.returns-in-Ok
-unfolding is_stalled_call
-returns-in-Ok c = search (telling, rules)
+pub returns : goal.returns
+unfolding is_stalled_call record_sound endpoints_of
+returns c = elim c.match-admit_at.branch [ in-Ok w ↦ search (telling, rules) | in-Err w ↦ search (not_telling, rules) ]
