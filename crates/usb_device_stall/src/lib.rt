@@ -14,7 +14,6 @@ use control_state::ControlState;
 use record::{Called, Flags, Ran, Record, Reply};
 use register_file::Regs;
 
-#[inline(never)]
 pub fn set_stalled(
     k: Record,
     ep: u8,
@@ -60,8 +59,7 @@ fn admit_at(numbers: usize, b: Board, w: &[u16; 46], f: Flags, ep: u8) -> Reply<
     )
 }
 
-// The direction goes to the source's two names, here and in `ep_is_stalled`. Out of line: built in, its words are spread over registers, and a stall takes half as much
-// again (docs/DESIGN-PASS.md).
+// The direction goes to the source's two names, here and in `ep_is_stalled`. Out of line: built in, its words are spread over registers (bench/RESULTS.md).
 #[inline(never)]
 fn ep_stall(
     w: &mut [u16; 46],
@@ -90,7 +88,6 @@ fn after_stall(c: ControlState, index: u8, stalled: bool) -> ControlState
     c
 }
 
-#[inline(never)]
 pub fn is_stalled(k: Record, ep: u8, direction: Direction, list: &mut [u16]) -> Called<Reply<bool>>
     ensures { record { call = result; list = list.new } ≡ is_stalled_call k ep direction list.old }
 {
