@@ -60,9 +60,6 @@ code_is s SetupEnd f l = refl
 code_is s (Underrun e) f l = refl
 code_is s (Overrun e) f l = refl
 
-handed_on : (s : List ℕ) (start n : ℕ) → take (start + n - start) (drop start s) ≡ packet s start n
-handed_on s start n = ap (λ (m : ℕ). take m (drop start s)) (add-sub_cancel_left start n)
-
 module _ {b a : List ℕ} {r : Acted} {code : ℕ} where
   -- the entry is e'
   pub entry : (s : List ℕ) (k : Record) (f l : List ℕ) {f' l' : List ℕ} {e e' : Entry} → e ≡ e' → code ≡ code_of e → Acts b a r f' l' code (did (state k f l) (operation s e' f l))
@@ -114,18 +111,20 @@ module _ {b a : List ℕ} {r : Acted} {code : ℕ} where
         → Acts b a r f l code (left (f, l) (calls.collected f o))
     by_collected e g = by (λ o. (f, l)) (ap (calls.collected f) e) g
 
-  -- a packet is handed on as a part of the trace
-  module _ (k : Record) (s : List ℕ) (p : Packet) (f : List ℕ) {f' : List ℕ} where
-    pub by_written : (l : List ℕ) {l' : List ℕ} {x : Called (Reply ℕ)} → record { result = x; fifo = f'; list = l' } ≡ write_call k p.endpoint (take (p.start + p.len - p.start) (drop p.start s)) f l
-        → Gives b a r code x.«record» x.stores (write_number x.answer) (write_values x.answer)
-        → Acts b a r f' l' code (did (state k f l) (operation s (Write p) f l))
-    by_written l e g =
-        by (λ o. (o.fifo, o.list)) (ap calls.written (e ∙ ap (λ (b : List ℕ). write_call k p.endpoint b f l) (handed_on s p.start p.len))) g
+  module _ (k : Record) (ep : ℕ) (bytes f : List ℕ) {f' : List ℕ} where
+    pub by_written : (l : List ℕ) {l' : List ℕ} {x : Called (Reply ℕ)} → record { result = x; fifo = f'; list = l' } ≡ write_call k ep bytes f l
+        → Gives b a r code x.«record» x.stores (write_number x.answer) (write_values x.answer) → Acts b a r f' l' code (did (state k f l) (calls.write ep bytes f l))
+    by_written l e g = by (λ o. (o.fifo, o.list)) (ap calls.written e) g
 
-    pub by_arrived : (l : List ℕ) {x : Answered (Reply Unit)} → record { event = x; fifo = f' } ≡ host.arrival_call k p.endpoint (take (p.start + p.len - p.start) (drop p.start s)) f
-        → Gives b a r code x.«record» 0 (reply_number x.answer) [] → Acts b a r f' l code (did (state k f l) (operation s (Arrival p) f l))
-    by_arrived l e g =
-        by (λ o. (o.fifo, l)) (ap calls.arrived (e ∙ ap (λ (b : List ℕ). host.arrival_call k p.endpoint b f) (handed_on s p.start p.len))) g
+    pub by_arrived : (l : List ℕ) {x : Answered (Reply Unit)} → record { event = x; fifo = f' } ≡ host.arrival_call k ep bytes f
+        → Gives b a r code x.«record» 0 (reply_number x.answer) [] → Acts b a r f' l code (did (state k f l) (calls.arrival ep bytes f))
+    by_arrived l e g = by (λ o. (o.fifo, l)) (ap calls.arrived e) g
+
+  -- a packet is handed on as a part of the trace
+  pub handed_on : (s : List ℕ) (p : Packet) (o : List ℕ → calls.Op) (k : Record) (f l : List ℕ) {f' l' : List ℕ}
+      → Acts b a r f' l' code (did (state k f l) (o (take (p.start + p.len - p.start) (drop p.start s)))) → Acts b a r f' l' code (did (state k f l) (o (packet s p.start p.len)))
+  handed_on s p o k f l {f'} {l'} =
+      subst (λ (m : ℕ). Acts b a r f' l' code (did (state k f l) (o (take m (drop p.start s))))) (add-sub_cancel_left p.start p.len)
 
 -- what `Within` says of the entries that it speaks of
 pub write_within : (s : List ℕ) {e : Entry} {p : Packet} → e ≡ Write p → Within s e → p.start + p.len ≤ length s
@@ -137,17 +136,17 @@ arrival_within s e h = rw e at h
 pub read_within : (s : List ℕ) {e : Entry} {ep n : ℕ} → e ≡ Read ep n → Within s e → n ≤ 512
 read_within s e h = rw e at h
 
--- a written length is the packet's
-pub wrote_fits : (k : Record) (s : List ℕ) (p : Packet) (f l : List ℕ) {x : Called (Reply ℕ)} {f' l' : List ℕ}
-    → record { result = x; fifo = f'; list = l' } ≡ write_call k p.endpoint (take (p.start + p.len - p.start) (drop p.start s)) f l → length s ≤ 65536 → WriteFits x.answer
-wrote_fits k s p f l {x} e h = go x.answer (λ i. (e i).result.answer)
-  where
-    b : List ℕ
-    b = take (p.start + p.len - p.start) (drop p.start s)
+-- a packet is no longer than the trace
+pub packet_short : (s : List ℕ) (p : Packet) → length s ≤ 65536 → length (take (p.start + p.len - p.start) (drop p.start s)) ≤ 65536
+packet_short s p h = omega (arith, h, length-take (p.start + p.len - p.start) (drop p.start s), length-drop p.start s)
 
-    go : (y : Reply ℕ) → y ≡ (write_call k p.endpoint b f l).result.answer → WriteFits y
-    go (Ok m) q =
-        omega (arith, h, write-answers.value k p.endpoint b f l m (sym q), length-take (p.start + p.len - p.start) (drop p.start s), length-drop p.start s)
+-- a written length is the packet's
+pub wrote_fits : (k : Record) (ep : ℕ) (bytes f l : List ℕ) {x : Called (Reply ℕ)} {f' l' : List ℕ}
+    → record { result = x; fifo = f'; list = l' } ≡ write_call k ep bytes f l → length bytes ≤ 65536 → WriteFits x.answer
+wrote_fits k ep bytes f l {x} e h = go x.answer (λ i. (e i).result.answer)
+  where
+    go : (y : Reply ℕ) → y ≡ (write_call k ep bytes f l).result.answer → WriteFits y
+    go (Ok m) q = omega (arith, h, write-answers.value k ep bytes f l m (sym q))
     go (Err z) q = tt
 
 -- a read that is done has its whole packet in the buffer

@@ -5,11 +5,13 @@
 ghost use Rattle.std.specs.Prelude.{◌≡◌, ◌≤◌, length, replicate};
 ghost use Rattle.trace_rules.specs.Entries.{code_of, Within};
 ghost use Rattle.calls.specs.Calls as calls;
+ghost use Rattle.report_rules.specs.Shown.{Gives};
 ghost use Rattle.report_rules.specs.Act.{state, bus_operation, did, acted, Acts, Lent};
 
 use event_rules::BusEvent;
-use record::{Answered, Record, Reply};
+use record::{Answered, Called, Record, Reply};
 use report_rules::Acted;
+use trace_answers::Shown;
 use trace_rules::Entry;
 
 // A packet is handed on as a part of the trace.
@@ -27,66 +29,114 @@ pub fn act(
 {
     let code = trace_entries::code_of(e);
     match e {
-        Entry::Allocate(d, w, t, n) => trace_answers::answered(
-            line,
-            code,
-            usb_device_alloc::alloc_ep(k, d, w, t, n),
-        ),
-        Entry::Init => trace_answers::called(line, code, usb_device_impl::bus_init(k, list)),
-        Entry::Reset => trace_answers::called(line, code, usb_device_reset::reset(k, list)),
-        Entry::Address(a) => trace_answers::called(
-            line,
-            code,
-            usb_device_impl::set_device_address(k, a, list),
-        ),
+        Entry::Allocate(d, w, t, n) => {
+            answered(
+                k,
+                line,
+                code,
+                move |k| usb_device_alloc::alloc_ep(k, d, w, t, n),
+            )
+        }
+        Entry::Init => called(k, list, line, code, usb_device_impl::bus_init),
+        Entry::Reset => called(k, list, line, code, usb_device_reset::reset),
+        Entry::Address(a) => {
+            called(
+                k,
+                list,
+                line,
+                code,
+                move |k, list| usb_device_impl::set_device_address(k, a, list),
+            )
+        }
         Entry::Write(p) => {
             let end = p.start + p.len;
-            trace_answers::written(
-                line,
-                code,
-                usb_device_write::write(k, p.endpoint, &trace[p.start..end], fifo, list),
-            )
+            write(k, p.endpoint, &trace[p.start..end], fifo, list, line, code)
         }
         Entry::Read(ep, n) => read(k, ep, n, fifo, list, line, code),
-        Entry::Stall(ep, d, on) => trace_answers::called(
-            line,
-            code,
-            usb_device_stall::set_stalled(k, ep, d, on, list),
-        ),
-        Entry::IsStalled(ep, d) => trace_answers::called(
-            line,
-            code,
-            usb_device_stall::is_stalled(k, ep, d, list),
-        ),
-        Entry::Poll => trace_answers::called(line, code, usb_device_poll::poll(k, list)),
-        Entry::Interrupt => trace_answers::answered(
-            line,
-            code,
-            usb_device_interrupt::on_interrupt(k),
-        ),
-        Entry::Enable => trace_answers::called(line, code, usb_device_impl::enable(k, list)),
-        Entry::Arrival(p) => {
-            let end = p.start + p.len;
-            trace_answers::answered(
+        Entry::Stall(ep, d, on) => {
+            called(
+                k,
+                list,
                 line,
                 code,
-                host::arrival(k, p.endpoint, &trace[p.start..end], fifo),
+                move |k, list| usb_device_stall::set_stalled(k, ep, d, on, list),
             )
         }
-        Entry::Collect(ep) => trace_answers::collected(
-            line,
-            code,
-            host::collection(k, ep, fifo),
-            fifo,
-        ),
-        Entry::Bus(b) => trace_answers::answered(line, code, bus(k, b)),
-        Entry::SetupEnd => trace_answers::answered(line, code, host::setup_end(k)),
-        Entry::Underrun(ep) => trace_answers::answered(line, code, host::underrun(k, ep)),
-        Entry::Overrun(ep) => trace_answers::answered(line, code, host::overrun(k, ep)),
+        Entry::IsStalled(ep, d) => {
+            called(
+                k,
+                list,
+                line,
+                code,
+                move |k, list| usb_device_stall::is_stalled(k, ep, d, list),
+            )
+        }
+        Entry::Poll => called(k, list, line, code, usb_device_poll::poll),
+        Entry::Interrupt => answered(k, line, code, usb_device_interrupt::on_interrupt),
+        Entry::Enable => called(k, list, line, code, usb_device_impl::enable),
+        Entry::Arrival(p) => {
+            let end = p.start + p.len;
+            arrival(k, p.endpoint, &trace[p.start..end], fifo, line, code)
+        }
+        Entry::Collect(ep) => collect(k, ep, fifo, line, code),
+        Entry::Bus(b) => answered(k, line, code, move |k| bus(k, b)),
+        Entry::SetupEnd => answered(k, line, code, host::setup_end),
+        Entry::Underrun(ep) => answered(k, line, code, move |k| host::underrun(k, ep)),
+        Entry::Overrun(ep) => answered(k, line, code, move |k| host::overrun(k, ep)),
     }
 }
 
+// A call that is lent the list, and its line. (Out of line, each call in a function of its own, as the four below: built into `act` the answers of all
+// entries were filled with zeros whichever was carried out, bench/RESULTS.md.)
+#[inline(never)]
+fn called<A: Shown, F: FnOnce(Record, &mut [u16]) -> Called<A>>(
+    k: Record,
+    list: &mut [u16],
+    line: &mut [u8],
+    code: u8,
+    call: F,
+) -> Acted
+    requires { (100 ≤ length line.old) × F.IsAlwaysCallable call }
+    ensures { (o : Called A) × (lent : _) × (left : _) × F.post call k lent o left × (lent.now ≡ list.old) × (left.now ≡ list.new) × Gives line.old line.new result code o.«record» o.stores (A.number o.answer) (A.values o.answer) }
+{
+    let o = call(k, list);
+    trace_answers::called(line, code, o)
+}
+
+// One that is lent nothing.
+#[inline(never)]
+fn answered<A: Shown, F: FnOnce(Record) -> Answered<A>>(
+    k: Record,
+    line: &mut [u8],
+    code: u8,
+    call: F,
+) -> Acted
+    requires { (100 ≤ length line.old) × F.IsAlwaysCallable call }
+    ensures { (o : Answered A) × F.post call k o × Gives line.old line.new result code o.«record» 0 (A.number o.answer) (A.values o.answer) }
+{
+    let o = call(k);
+    trace_answers::answered(line, code, o)
+}
+
+#[inline(never)]
+fn write(
+    k: Record,
+    ep: u8,
+    bytes: &[u8],
+    fifo: &mut [u8],
+    list: &mut [u16],
+    line: &mut [u8],
+    code: u8,
+) -> Acted
+    requires { (length bytes.now ≤ 65536) × (100 ≤ length line.old) }
+    ensures { Acts line.old line.new result fifo.new list.new code (did (state k fifo.old list.old) (calls.write ep bytes.now fifo.old list.old)) }
+{
+    let o = usb_device_write::write(k, ep, bytes, fifo, list);
+    trace_answers::written(line, code, o)
+}
+
 // A read is lent the first bytes of a buffer of its own.
+#[inline(never)]
 fn read(
     k: Record,
     ep: u8,
@@ -124,6 +174,22 @@ fn fetch(
 {
     let o = usb_device_read::read(k, ep, buf, fifo, list);
     trace_answers::fetched(line, code, o, buf)
+}
+
+#[inline(never)]
+fn arrival(k: Record, ep: u8, bytes: &[u8], fifo: &mut [u8], line: &mut [u8], code: u8) -> Acted
+    requires { 100 ≤ length line.old }
+    ensures { (l : _) → Acts line.old line.new result fifo.new l code (did (state k fifo.old l) (calls.arrival ep bytes.now fifo.old)) }
+{
+    trace_answers::answered(line, code, host::arrival(k, ep, bytes, fifo))
+}
+
+#[inline(never)]
+fn collect(k: Record, ep: u8, fifo: &[u8], line: &mut [u8], code: u8) -> Acted
+    requires { (length fifo.now ≤ 2000) × (8192 ≤ length line.old) }
+    ensures { (l : _) → Acts line.old line.new result fifo.now l code (did (state k fifo.now l) (calls.collection ep fifo.now)) }
+{
+    trace_answers::collected(line, code, host::collection(k, ep, fifo), fifo)
 }
 
 // By the names of docs/CALLS.md, as `bus_operation` has them.
