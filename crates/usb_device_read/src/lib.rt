@@ -19,7 +19,6 @@ use board::{Board, Direction};
 use control_state::{ControlState, ControlStateEnum};
 use csr::{Csr0l, Csr0lSet, Rxcsrl, RxcsrlSet};
 use record::{Called, Flags, Ran, Record, Refusal, Reply};
-use register_file::Regs;
 use transfer_rules::Verdict;
 
 #[tactic(auto, unfolding(transfer_rules::specs::Read::read_call, transfer_rules::specs::ReadZero::rx_size))]
@@ -33,28 +32,25 @@ pub fn read(
     ensures { record { result = result; list = list.new; buf = buf.new } ≡ read_call k ep buf.old fifo.now list.old }
 {
     let size = usize::from(k.endpoints[0].ep_conf.rx_max_packet_size);
-    let mut w = k.regs.words;
-    let mut c = k.control_state;
+    let mut o = Called {
+        record: k,
+        stores: 0,
+        answer: Ok(0),
+    };
     let ran = read_by(
         k.regs.board,
-        &mut w,
+        &mut o.record.regs.words,
         list,
-        &mut c,
+        &mut o.record.control_state,
         k.irq,
         size,
         ep,
         buf,
         fifo,
     );
-    Called {
-        record: Record {
-            regs: Regs { words: w, ..k.regs },
-            control_state: c,
-            ..k
-        },
-        stores: ran.n,
-        answer: ran.answer,
-    }
+    o.stores = ran.n;
+    o.answer = ran.answer;
+    o
 }
 
 // By what the tests came to. `size` is endpoint 0's recorded receive size. No read changes the flags.

@@ -20,7 +20,6 @@ use control_state::{ControlState, ControlStateEnum};
 use csr::{Csr0l, Csr0lSet, Txcsrl, TxcsrlSet};
 use endpoints::EndpointData;
 use record::{Called, Flags, Ran, Record, Refusal, Reply};
-use register_file::Regs;
 use transfer_rules::Verdict;
 
 #[tactic(auto, unfolding(transfer_rules::specs::Write::write_call, transfer_rules::specs::WriteZero::tx_size))]
@@ -34,30 +33,25 @@ pub fn write(
     ensures { record { result = result; fifo = fifo.new; list = list.new } ≡ write_call k ep bytes.now fifo.old list.old }
 {
     let size = tx_size(&k.endpoints);
-    let mut w = k.regs.words;
-    let mut c = k.control_state;
-    let mut f = k.irq;
+    let mut o = Called {
+        record: k,
+        stores: 0,
+        answer: Ok(0),
+    };
     let ran = write_by(
         k.regs.board,
-        &mut w,
+        &mut o.record.regs.words,
         list,
-        &mut c,
-        &mut f,
+        &mut o.record.control_state,
+        &mut o.record.irq,
         size,
         ep,
         bytes,
         fifo,
     );
-    Called {
-        record: Record {
-            regs: Regs { words: w, ..k.regs },
-            control_state: c,
-            irq: f,
-            ..k
-        },
-        stores: ran.n,
-        answer: ran.answer,
-    }
+    o.stores = ran.n;
+    o.answer = ran.answer;
+    o
 }
 
 // Endpoint 0's recorded transmit size.
