@@ -28,16 +28,16 @@ pub fn alloc_ep(
         way: ep_dir,
         size: max_packet_size,
     };
-    let mut o = Answered {
-        record: k,
-        answer: Ok(0),
+    let mut e = k.endpoints;
+    let answer = if record_ops::sound(k.regs.board, &k.regs.words, k.irq) {
+        allocate(k.regs.board, &mut e, ep_addr, ask)
+    } else {
+        Err(AllocRefusal::Refused(Refusal::BadRecord))
     };
-    if !record_ops::sound(k.regs.board, &k.regs.words, k.irq) {
-        o.answer = Err(AllocRefusal::Refused(Refusal::BadRecord));
-        return o;
+    Answered {
+        record: Record { endpoints: e, ..k },
+        answer,
     }
-    o.answer = allocate(k.regs.board, &mut o.record.endpoints, ep_addr, ask);
-    o
 }
 
 fn allocate(

@@ -4,11 +4,11 @@ use mathlib.Core.Bool.{Bool, false}
 use Rattle.record.specs.Record.{admission_by}
 use Rattle.call_rules.proofs.Alloc.{not_allowed, allocating}
 use Rattle.usb_device_alloc.proofs.alloc_ep.Goals as goal
+use Rattle.usb_device_alloc.proofs.alloc_ep.Goals.{then-sound, else-sound}
 
-pub returns-then-not-sound : goal.returns-then-not-sound
-returns-then-not-sound c =
-    not_allowed c.args.k _ _ refl (ap (λ (b : Bool). admission_by false b false) (sym c.sound.ensures ∙ c.if-not-sound.true))
-
+-- the record's own test, as the first of the admission
 pub returns : goal.returns
-returns c =
-    allocating c.args.k _ _ refl (ap (λ (b : Bool). admission_by false b false) (sym c.sound.ensures ∙ c.if-not-sound.false)) c.allocate-o.ensures
+returns c = elim c.if-sound.branch [
+  | then-sound w ↦ rw w.answer-is (rw w.e-is (allocating c.args.k _ _ refl (ap (λ (b : Bool). admission_by false b false) (sym c.sound.ensures ∙ w.if-sound.true)) w.allocate-answer.ensures))
+  | else-sound w ↦ rw w.answer-is (rw w.e-is (not_allowed c.args.k _ _ refl (ap (λ (b : Bool). admission_by false b false) (sym c.sound.ensures ∙ w.if-sound.false))))
+]
