@@ -86,8 +86,8 @@ pub fn act(
     }
 }
 
-// A call that is lent the list, and its line. (Out of line, each call in a function of its own, as the four below: built into `act` the answers of all
-// entries were filled with zeros whichever was carried out, bench/RESULTS.md.)
+// A call that is lent the list, and its line. (Out of line, each call in a function of its own, as `answered`, `write`, `read`, `arrival` and `collect` are:
+// built into `act`, the answers of all entries were filled with zeros whichever was carried out, bench/RESULTS.md.)
 #[inline(never)]
 fn called<A: Shown, F: FnOnce(Record, &mut [u16]) -> Called<A>>(
     k: Record,
