@@ -140,7 +140,7 @@ read_within s e h = rw e at h
 pub packet_short : (s : List ℕ) (p : Packet) → length s ≤ 65536 → length (take (p.start + p.len - p.start) (drop p.start s)) ≤ 65536
 packet_short s p h = omega (arith, h, length-take (p.start + p.len - p.start) (drop p.start s), length-drop p.start s)
 
--- a written length is the packet's
+-- a written length is that of the bytes that were lent
 pub wrote_fits : (k : Record) (ep : ℕ) (bytes f l : List ℕ) {x : Called (Reply ℕ)} {f' l' : List ℕ}
     → record { result = x; fifo = f'; list = l' } ≡ write_call k ep bytes f l → length bytes ≤ 65536 → WriteFits x.answer
 wrote_fits k ep bytes f l {x} e h = go x.answer (λ i. (e i).result.answer)

@@ -86,8 +86,9 @@ pub fn act(
     }
 }
 
-// A call that is lent the list, and its line. (Out of line, each call in a function of its own, as `answered`, `write`, `read`, `arrival` and `collect` are:
-// built into `act`, the answers of all entries were filled with zeros whichever was carried out, bench/RESULTS.md.)
+// A call that is lent the list, and its line: it found the list as `lent` and left it as `left`.
+// (Out of line, each call in a function of its own, as `answered`, `write`, `read`, `arrival` and `collect` are: built into `act`, the answers of all entries
+// were filled with zeros whichever was carried out, bench/RESULTS.md. `move`: what a closure holds is then the number, and not a place of it.)
 #[inline(never)]
 fn called<A: Shown, F: FnOnce(Record, &mut [u16]) -> Called<A>>(
     k: Record,
@@ -176,6 +177,7 @@ fn fetch(
     trace_answers::fetched(line, code, o, buf)
 }
 
+// The list is not lent: it stays as it was, whatever stands in it.
 #[inline(never)]
 fn arrival(k: Record, ep: u8, bytes: &[u8], fifo: &mut [u8], line: &mut [u8], code: u8) -> Acted
     requires { 100 ≤ length line.old }

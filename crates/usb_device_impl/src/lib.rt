@@ -1,7 +1,7 @@
 // The simple calls of the source's usb_device_impl/mod.rs: the bus and the address; and what every call begins with.
 // A call takes the record by value, any numbers and any lent list, tests what document 01 refuses before anything changes, and gives back
 // its answer, the record and how many stores stand in the list. Its result is begun with the record, whose parts are lent to what runs below
-// it and changed in place; or the registers alone are taken out of the record and lent, and the result is made at the end, where that is less (bench/RESULTS.md).
+// it and changed in place; or what changes, the registers or the endpoints, is taken out of the record and lent, and the result is made at the end, where that is less (bench/RESULTS.md).
 
 #![tactic(auto, unfolding(record::specs::Record::record_sound, record::specs::Record::endpoints_of))]
 

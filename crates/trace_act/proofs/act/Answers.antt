@@ -27,6 +27,8 @@ slice_bounds-arrival-end c = omega (arith, arrival_within _ c.in-Arrival.is c.re
 pub collect-requires : goal.collect-requires
 collect-requires c = (c.requires.0.memory, c.requires.0.room)
 
+-- what the call did is found in the contract of the function or closure that was handed on; `.2` and `.6` are the last parts of what `answered` and
+-- `called` ensure: the line
 pub returns-in-Allocate : goal.returns-in-Allocate
 returns-in-Allocate c = entry _ _ _ _ c.in-Allocate.is c.code_of-code.ensures (by_allocated _ _ (search rules) c.answered.ensures.2)
 
